@@ -1,0 +1,4 @@
+pub mod Bridge
+pub mod Statuses
+pub mod Tree
+pub mod formers

@@ -1,0 +1,89 @@
+use crate::lists::Many;
+use crate::locations::Import;
+use crate::operators::{BinOp, Builtin};
+use crate::texts::{Label, Piece};
+
+/// The labels of a record, a record type, a projection or a `with` path.
+pub type Labels = Many<Label>;
+
+/// The text between the interpolations of a text literal, one more than there are interpolations.
+pub type Pieces = Many<Piece>;
+
+/// The alternatives of a union type, in the order of their labels.
+pub type Alts = Many<Alt>;
+
+/// The parts of a node, numbered from 0.
+pub type Kids = Many<Kid>;
+
+/// An expression: a variable with its index, or a node with its parts.
+#[cycle(expression)]
+#[derive(Debug, Drop)]
+pub enum Expr {
+    Var(Label, u32),
+    Node(Op, Kids),
+}
+
+/// A part of a node, under the variable that the node binds in it, if it binds one.
+#[cycle(expression)]
+#[derive(Debug, Drop)]
+pub struct Kid {
+    pub binder: Option<Label>,
+    pub body: Expr,
+}
+
+/// An alternative of a union type, with or without a type.
+#[derive(Debug, Drop)]
+pub struct Alt {
+    pub label: Label,
+    pub typed: bool,
+}
+
+/// What a node is. `arity_ok` says which parts each node has.
+#[derive(Debug)]
+pub enum Op {
+    Builtin(Builtin),
+    Bool(bool),
+    Nat(u128),
+    Int(i128),
+    Text(Pieces),
+    Import(Import),
+    Lam,
+    Pi,
+    /// Whether the variable has a written type.
+    Let(bool),
+    App,
+    If,
+    Bin(BinOp),
+    EmptyList,
+    List,
+    Some,
+    /// Whether there is an annotation.
+    Merge(bool),
+    RecordType(Labels),
+    Record(Labels),
+    Field(Label),
+    Project(Labels),
+    ProjectType,
+    Union(Alts),
+    Assert,
+    Annot,
+    /// Whether there is an annotation.
+    ToMap(bool),
+    With(Labels),
+}
+
+impl Drop for Op {
+    fn drop(self) {
+        match self {
+            Op::Builtin(_) | Op::Bool(_) | Op::Nat(_) | Op::Int(_) | Op::Bin(_) => {}
+            Op::Text(_) => {}
+            Op::Import(_) => {}
+            Op::RecordType(_) | Op::Record(_) | Op::Project(_) | Op::With(_) => {}
+            Op::Field(_) => {}
+            Op::Union(_) => {}
+            Op::Let(_) | Op::Merge(_) | Op::ToMap(_) => {}
+            Op::Lam | Op::Pi | Op::App | Op::If | Op::EmptyList | Op::List => {}
+            Op::Some | Op::ProjectType | Op::Assert | Op::Annot => {}
+        }
+    }
+}

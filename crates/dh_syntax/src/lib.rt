@@ -1,0 +1,24 @@
+//! The types that all of the crates share, their faults, and in `specs/` the definitions of the language.
+#![tactic(auto)]
+
+mod expressions;
+mod faults;
+mod lists;
+mod locations;
+mod operators;
+mod outcomes;
+mod purses;
+mod statuses;
+mod texts;
+mod tokens;
+
+pub use expressions::{Alt, Alts, Expr, Kid, Kids, Labels, Op, Pieces};
+pub use faults::{DecodeFault, Ill, NormFault, ParseFault, Path, TypeFault};
+pub use lists::Many;
+pub use locations::{Comps, Digest, Import, Key, Loc, Mode, Url};
+pub use operators::{BinOp, Builtin};
+pub use outcomes::{Blame, Origin, Outcome, Why};
+pub use purses::Purse;
+pub use statuses::Status;
+pub use texts::{Bytes, Label, Piece};
+pub use tokens::{Keyword, Mark, TextForm, Token, TokenKind};

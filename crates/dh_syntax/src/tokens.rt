@@ -1,0 +1,112 @@
+use crate::locations::{Digest, Loc};
+use crate::operators::{BinOp, Builtin};
+use crate::texts::{Label, Piece};
+
+/// A token: what it is, the bytes from `from` to `to` that spell it, and whether white space stands before it.
+/// The first token of a text has a gap.
+#[derive(Debug, Drop)]
+pub struct Token {
+    pub kind: TokenKind,
+    pub from: u32,
+    pub to: u32,
+    pub gap: bool,
+}
+
+/// What a token is, with the value read (`dhall.abnf`, from "end-of-line" to "import-hashed").
+#[derive(Debug)]
+pub enum TokenKind {
+    /// A name that is no keyword and no built-in name.
+    Name(Label),
+    /// A label between backticks.
+    Quoted(Label),
+    Keyword(Keyword),
+    /// `True` or `False`.
+    Bool(bool),
+    Builtin(Builtin),
+    Natural(u128),
+    Integer(i128),
+    /// The opening of a text literal.
+    TextOpen(TextForm),
+    /// The characters between two interpolations, as they are written between double quotes, or with the escapes
+    /// read and line ends as line feeds in a multi-line text.
+    TextPiece(Piece),
+    /// `${`
+    InterpolationOpen,
+    /// The `}` that ends an interpolation.
+    InterpolationClose,
+    TextClose,
+    /// A path: `Abs`, `Here`, `Parent` or `Home`.
+    Path(Loc),
+    /// A URL: `Http` or `Https`.
+    Url(Loc),
+    /// The name of an environment variable.
+    Environment(Piece),
+    Digest(Digest),
+    Mark(Mark),
+    /// The end of the text.
+    End,
+}
+
+/// The two forms of text literal.
+#[derive(Clone, Copy, Debug, PartialEq, Eq)]
+pub enum TextForm {
+    DoubleQuoted,
+    MultiLine,
+}
+
+/// The names that the grammar keeps for itself, `forall` apart, which is a mark.
+#[derive(Clone, Copy, Debug, PartialEq, Eq)]
+pub enum Keyword {
+    If,
+    Then,
+    Else,
+    Let,
+    In,
+    Missing,
+    Assert,
+    As,
+    Merge,
+    Some,
+    ToMap,
+    With,
+}
+
+/// The marks. The two spellings of one mark, as `\` and `λ`, are one.
+#[derive(Clone, Copy, Debug, PartialEq, Eq)]
+pub enum Mark {
+    ParenOpen,
+    ParenClose,
+    BracketOpen,
+    BracketClose,
+    BraceOpen,
+    BraceClose,
+    AngleOpen,
+    AngleClose,
+    Comma,
+    Dot,
+    Colon,
+    /// `=`
+    Equals,
+    At,
+    Bar,
+    Arrow,
+    Lambda,
+    Forall,
+    /// The mark of an operator, `::` and `?` among them.
+    Operator(BinOp),
+}
+
+impl Drop for TokenKind {
+    fn drop(self) {
+        match self {
+            TokenKind::Name(_) | TokenKind::Quoted(_) => {}
+            TokenKind::Keyword(_) | TokenKind::Bool(_) | TokenKind::Builtin(_) => {}
+            TokenKind::Natural(_) | TokenKind::Integer(_) => {}
+            TokenKind::TextPiece(_) | TokenKind::Environment(_) => {}
+            TokenKind::Path(_) | TokenKind::Url(_) => {}
+            TokenKind::Digest(_) | TokenKind::Mark(_) | TokenKind::TextOpen(_) => {}
+            TokenKind::InterpolationOpen | TokenKind::InterpolationClose => {}
+            TokenKind::TextClose | TokenKind::End => {}
+        }
+    }
+}
