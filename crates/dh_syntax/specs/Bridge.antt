@@ -40,7 +40,6 @@ parts (k ∷ ks) = (k.binder, term k.body) ∷ parts ks
 unfoldable pub row_of : List Kid → Row tree.Var Name
 row_of ks = row (parts ks)
 
-
 row_of_parts : (kids : List Kid) → row (map (fold-Kid Term Part expr_step kid_step) kids) ≡ row_of kids
 unfolding term row_of
 row_of_parts [] = refl
@@ -64,7 +63,6 @@ abbrev mutual
   pub kids_of : Row tree.Var Name → List Kid
   kids_of end = []
   kids_of (kid b e r) = record { binder = b; body = expr_of e } ∷ kids_of r
-
 
 abbrev IsBack : Expr → Type 0
 IsBack e = expr_of (term e) ≡ e
