@@ -1,7 +1,11 @@
 pub mod Arity
+pub mod Binary
+pub mod BinaryExamples
 pub mod Bridge
+pub mod Cbor
 pub mod Nesting
 pub mod Numbers
+pub mod Operators
 pub mod Order
 pub mod Statuses
 pub mod Tree

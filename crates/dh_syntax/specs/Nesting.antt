@@ -1,5 +1,5 @@
 -- How deep an expression nests.
-use Rattle.std.specs.Prelude.{ℕ, zero, suc, max}
+use Rattle.std.specs.Prelude.{ℕ, suc, max}
 use Rattle.dh_syntax.specs.Tree.{Tree, Row, Leaf, Node, end, kid}
 
 abbrev mutual
