@@ -1,0 +1,3 @@
+pub mod SmallGrammar
+pub mod SmallSpelling
+pub mod SmallTokens

@@ -1,0 +1,2 @@
+//! Text to expressions.
+#![tactic(auto)]
