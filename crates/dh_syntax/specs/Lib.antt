@@ -1,12 +1,16 @@
+pub mod Answer
+pub mod AnswerExamples
 pub mod Arity
 pub mod Binary
 pub mod BinaryExamples
 pub mod Bridge
 pub mod Cbor
+pub mod FaultLines
 pub mod Nesting
 pub mod Numbers
 pub mod Operators
 pub mod Order
 pub mod Statuses
 pub mod Tree
+pub mod Words
 pub mod formers
