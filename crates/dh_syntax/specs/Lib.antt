@@ -1,3 +1,5 @@
+pub mod Alpha
+pub mod AlphaExamples
 pub mod Answer
 pub mod AnswerExamples
 pub mod Arity
@@ -5,12 +7,19 @@ pub mod Binary
 pub mod BinaryExamples
 pub mod Bridge
 pub mod Cbor
+pub mod ExampleTerms
 pub mod FaultLines
+pub mod Moves
+pub mod Nameless
+pub mod NamelessExamples
 pub mod Nesting
 pub mod Numbers
 pub mod Operators
 pub mod Order
+pub mod SameTree
 pub mod Statuses
+pub mod Subst
+pub mod SubstExamples
 pub mod Tree
 pub mod Words
 pub mod formers

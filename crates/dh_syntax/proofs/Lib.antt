@@ -1,0 +1,4 @@
+pub mod AlphaEquations
+pub mod Moves
+pub mod Numbers
+pub mod SameTree
