@@ -3,6 +3,8 @@ pub mod Binary
 pub mod BinaryExamples
 pub mod Bridge
 pub mod Cbor
+pub mod LocationExamples
+pub mod Locations
 pub mod Nesting
 pub mod Numbers
 pub mod Operators
