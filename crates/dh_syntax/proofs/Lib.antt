@@ -1,4 +1,5 @@
 pub mod AlphaEquations
+pub mod LocationLaws
 pub mod Moves
 pub mod Numbers
 pub mod SameTree

@@ -9,6 +9,8 @@ pub mod Bridge
 pub mod Cbor
 pub mod ExampleTerms
 pub mod FaultLines
+pub mod LocationExamples
+pub mod Locations
 pub mod Moves
 pub mod Nameless
 pub mod NamelessExamples
