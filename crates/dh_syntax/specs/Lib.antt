@@ -3,6 +3,7 @@ pub mod Bridge
 pub mod Nesting
 pub mod Numbers
 pub mod Order
+pub mod Rows
 pub mod Statuses
 pub mod Tree
 pub mod formers
