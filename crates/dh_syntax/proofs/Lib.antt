@@ -1,5 +1,7 @@
 pub mod AlphaEquations
+pub mod Bridge
 pub mod LocationLaws
 pub mod Moves
 pub mod Numbers
+pub mod Rows
 pub mod SameTree

@@ -18,6 +18,7 @@ pub mod Nesting
 pub mod Numbers
 pub mod Operators
 pub mod Order
+pub mod Rows
 pub mod SameTree
 pub mod Statuses
 pub mod Subst

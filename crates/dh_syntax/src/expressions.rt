@@ -1,7 +1,11 @@
+ghost use Rattle.std.specs.Prelude.{◌≡◌, IfOk};
+
+use crate::copies::{copy, copy_alts, copy_labels, copy_name, copy_pieces};
 use crate::lists::Many;
 use crate::locations::Import;
 use crate::operators::{BinOp, Builtin};
 use crate::texts::{Label, Piece};
+use std::alloc::{AllocError, Global};
 
 /// The labels of a record, a record type, a projection or a `with` path.
 pub type Labels = Many<Label>;
@@ -70,6 +74,67 @@ pub enum Op {
     /// Whether there is an annotation.
     ToMap(bool),
     With(Labels),
+}
+
+impl Kid {
+    /// An equal kid.
+    #[cycle(copy)]
+    pub fn copied(&self, alloc: Global) -> Result<Kid, AllocError>
+        ensures { IfOk result (λ c. c ≡ self.now) }
+    {
+        let binder = copy_name(alloc, &self.binder)?;
+        let body = copy(alloc, &self.body)?;
+        Ok(Kid { binder, body })
+    }
+}
+
+impl Alt {
+    /// An equal alternative.
+    pub fn copied(&self, alloc: Global) -> Result<Alt, AllocError>
+        ensures { IfOk result (λ c. c ≡ self.now) }
+    {
+        let label = self.label.copied(alloc)?;
+        Ok(Alt {
+            label,
+            typed: self.typed,
+        })
+    }
+}
+
+impl Op {
+    /// An equal operator.
+    pub fn copied(&self, alloc: Global) -> Result<Op, AllocError>
+        ensures { IfOk result (λ c. c ≡ self.now) }
+    {
+        match self {
+            Op::Builtin(builtin) => Ok(Op::Builtin(*builtin)),
+            Op::Bool(value) => Ok(Op::Bool(*value)),
+            Op::Nat(value) => Ok(Op::Nat(*value)),
+            Op::Int(value) => Ok(Op::Int(*value)),
+            Op::Text(pieces) => Ok(Op::Text(copy_pieces(alloc, pieces)?)),
+            Op::Import(import) => Ok(Op::Import(import.copied(alloc)?)),
+            Op::Lam => Ok(Op::Lam),
+            Op::Pi => Ok(Op::Pi),
+            Op::Let(typed) => Ok(Op::Let(*typed)),
+            Op::App => Ok(Op::App),
+            Op::If => Ok(Op::If),
+            Op::Bin(operator) => Ok(Op::Bin(*operator)),
+            Op::EmptyList => Ok(Op::EmptyList),
+            Op::List => Ok(Op::List),
+            Op::Some => Ok(Op::Some),
+            Op::Merge(typed) => Ok(Op::Merge(*typed)),
+            Op::RecordType(labels) => Ok(Op::RecordType(copy_labels(alloc, labels)?)),
+            Op::Record(labels) => Ok(Op::Record(copy_labels(alloc, labels)?)),
+            Op::Field(label) => Ok(Op::Field(label.copied(alloc)?)),
+            Op::Project(labels) => Ok(Op::Project(copy_labels(alloc, labels)?)),
+            Op::ProjectType => Ok(Op::ProjectType),
+            Op::Union(alts) => Ok(Op::Union(copy_alts(alloc, alts)?)),
+            Op::Assert => Ok(Op::Assert),
+            Op::Annot => Ok(Op::Annot),
+            Op::ToMap(typed) => Ok(Op::ToMap(*typed)),
+            Op::With(labels) => Ok(Op::With(copy_labels(alloc, labels)?)),
+        }
+    }
 }
 
 impl Drop for Op {

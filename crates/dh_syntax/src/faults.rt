@@ -1,7 +1,8 @@
-ghost use Rattle.std.specs.Prelude.{◌≡◌};
+ghost use Rattle.std.specs.Prelude.{◌≡◌, IfOk};
 
+use crate::copies::copy_path;
 use crate::lists::Many;
-use std::alloc::{AllocError, AllocFailed};
+use std::alloc::{AllocError, AllocFailed, Global};
 
 /// The place of a part: the numbers of the parts on the way from the root.
 pub type Path = Many<u32>;
@@ -65,6 +66,34 @@ pub enum TypeFault {
 pub struct Ill {
     pub path: Path,
     pub rule: u8,
+}
+
+impl Ill {
+    /// An equal place and rule.
+    pub fn copied(&self, alloc: Global) -> Result<Ill, AllocError>
+        ensures { IfOk result (λ c. c ≡ self.now) }
+    {
+        let path = copy_path(alloc, &self.path)?;
+        Ok(Ill {
+            path,
+            rule: self.rule,
+        })
+    }
+}
+
+impl TypeFault {
+    /// An equal fault.
+    pub fn copied(&self, alloc: Global) -> Result<TypeFault, AllocError>
+        ensures { IfOk result (λ c. c ≡ self.now) }
+    {
+        match self {
+            TypeFault::Ill(ill) => Ok(TypeFault::Ill(ill.copied(alloc)?)),
+            TypeFault::Wide => Ok(TypeFault::Wide),
+            TypeFault::Spent => Ok(TypeFault::Spent),
+            TypeFault::Deep => Ok(TypeFault::Deep),
+            TypeFault::Memory => Ok(TypeFault::Memory),
+        }
+    }
 }
 
 impl From<AllocError> for ParseFault {

@@ -1,6 +1,7 @@
 //! The types that all of the crates share, their faults, and in `specs/` the definitions of the language.
 #![tactic(auto)]
 
+mod copies;
 mod expressions;
 mod faults;
 mod lists;
@@ -12,6 +13,7 @@ mod statuses;
 mod texts;
 mod tokens;
 
+pub use copies::{copy, copy_alts, copy_kids, copy_labels, copy_name, copy_path, copy_pieces};
 pub use expressions::{Alt, Alts, Expr, Kid, Kids, Labels, Op, Pieces};
 pub use faults::{DecodeFault, Ill, NormFault, ParseFault, Path, TypeFault};
 pub use lists::Many;

@@ -1,5 +1,9 @@
+ghost use Rattle.std.specs.Prelude.{◌≡◌, IfOk};
+
+use crate::copies::copy_pieces;
 use crate::lists::Many;
 use crate::texts::Piece;
+use std::alloc::{AllocError, Global};
 
 /// The components of a path, the file last.
 pub type Comps = Many<Piece>;
@@ -60,6 +64,67 @@ pub struct Key {
     pub loc: Loc,
     pub mode: Mode,
     pub digest: Option<Digest>,
+}
+
+impl Url {
+    /// An equal URL.
+    pub fn copied(&self, alloc: Global) -> Result<Url, AllocError>
+        ensures { IfOk result (λ c. c ≡ self.now) }
+    {
+        let host = self.host.copied(alloc)?;
+        let comps = copy_pieces(alloc, &self.comps)?;
+        let query = match &self.query {
+            Some(text) => Some(text.copied(alloc)?),
+            None => None,
+        };
+        Ok(Url { host, comps, query })
+    }
+}
+
+impl Loc {
+    /// An equal location.
+    pub fn copied(&self, alloc: Global) -> Result<Loc, AllocError>
+        ensures { IfOk result (λ c. c ≡ self.now) }
+    {
+        match self {
+            Loc::Abs(comps) => Ok(Loc::Abs(copy_pieces(alloc, comps)?)),
+            Loc::Here(comps) => Ok(Loc::Here(copy_pieces(alloc, comps)?)),
+            Loc::Parent(comps) => Ok(Loc::Parent(copy_pieces(alloc, comps)?)),
+            Loc::Home(comps) => Ok(Loc::Home(copy_pieces(alloc, comps)?)),
+            Loc::Http(url) => Ok(Loc::Http(url.copied(alloc)?)),
+            Loc::Https(url) => Ok(Loc::Https(url.copied(alloc)?)),
+            Loc::Env(name) => Ok(Loc::Env(name.copied(alloc)?)),
+            Loc::Missing => Ok(Loc::Missing),
+        }
+    }
+}
+
+impl Import {
+    /// An equal import.
+    pub fn copied(&self, alloc: Global) -> Result<Import, AllocError>
+        ensures { IfOk result (λ c. c ≡ self.now) }
+    {
+        let loc = self.loc.copied(alloc)?;
+        Ok(Import {
+            loc,
+            mode: self.mode,
+            digest: self.digest,
+        })
+    }
+}
+
+impl Key {
+    /// An equal key.
+    pub fn copied(&self, alloc: Global) -> Result<Key, AllocError>
+        ensures { IfOk result (λ c. c ≡ self.now) }
+    {
+        let loc = self.loc.copied(alloc)?;
+        Ok(Key {
+            loc,
+            mode: self.mode,
+            digest: self.digest,
+        })
+    }
 }
 
 impl Drop for Url {

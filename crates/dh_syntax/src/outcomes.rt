@@ -1,7 +1,11 @@
+ghost use Rattle.std.specs.Prelude.{◌≡◌, IfOk};
+
+use crate::copies::copy;
 use crate::expressions::Expr;
 use crate::faults::{NormFault, ParseFault, TypeFault};
 use crate::locations::{Digest, Key, Loc};
 use crate::texts::Bytes;
+use std::alloc::{AllocError, Global};
 
 /// A fault of a resolution: which item is at fault, none for the root, and why.
 #[derive(Debug, Drop)]
@@ -48,6 +52,76 @@ pub enum Origin {
 pub enum Outcome {
     Good { value: Expr, origin: Origin },
     Bad(Blame),
+}
+
+impl Blame {
+    /// An equal fault.
+    pub fn copied(&self, alloc: Global) -> Result<Blame, AllocError>
+        ensures { IfOk result (λ c. c ≡ self.now) }
+    {
+        let at = match &self.at {
+            Some(key) => Some(key.copied(alloc)?),
+            None => None,
+        };
+        let why = self.why.copied(alloc)?;
+        Ok(Blame { at, why })
+    }
+}
+
+impl Why {
+    /// An equal reason.
+    pub fn copied(&self, alloc: Global) -> Result<Why, AllocError>
+        ensures { IfOk result (λ c. c ≡ self.now) }
+    {
+        match self {
+            Why::Parse(fault) => Ok(Why::Parse(*fault)),
+            Why::Typing(fault) => Ok(Why::Typing(fault.copied(alloc)?)),
+            Why::Norm(fault) => Ok(Why::Norm(*fault)),
+            Why::Absent => Ok(Why::Absent),
+            Why::Missing => Ok(Why::Missing),
+            Why::Broken(status) => Ok(Why::Broken(*status)),
+            Why::Https => Ok(Why::Https),
+            Why::Failed => Ok(Why::Failed),
+            Why::Differs { wanted, got } => Ok(Why::Differs {
+                wanted: *wanted,
+                got: *got,
+            }),
+            Why::Insane(loc) => Ok(Why::Insane(loc.copied(alloc)?)),
+            Why::Cors(loc) => Ok(Why::Cors(loc.copied(alloc)?)),
+            Why::Cycle => Ok(Why::Cycle),
+            Why::TooMany => Ok(Why::TooMany),
+        }
+    }
+}
+
+impl Origin {
+    /// An equal origin.
+    pub fn copied(&self, alloc: Global) -> Result<Origin, AllocError>
+        ensures { IfOk result (λ c. c ≡ self.now) }
+    {
+        match self {
+            Origin::Fetched(Some(origin)) => Ok(Origin::Fetched(Some(origin.copied(alloc)?))),
+            Origin::Fetched(None) => Ok(Origin::Fetched(None)),
+            Origin::Cached => Ok(Origin::Cached),
+            Origin::Made => Ok(Origin::Made),
+        }
+    }
+}
+
+impl Outcome {
+    /// An equal outcome.
+    pub fn copied(&self, alloc: Global) -> Result<Outcome, AllocError>
+        ensures { IfOk result (λ c. c ≡ self.now) }
+    {
+        match self {
+            Outcome::Good { value, origin } => {
+                let origin = origin.copied(alloc)?;
+                let value = copy(alloc, value)?;
+                Ok(Outcome::Good { value, origin })
+            }
+            Outcome::Bad(blame) => Ok(Outcome::Bad(blame.copied(alloc)?)),
+        }
+    }
 }
 
 impl Drop for Why {
