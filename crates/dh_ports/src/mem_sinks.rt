@@ -1,0 +1,106 @@
+ghost use Rattle.std.specs.Prelude.{◌≡◌, [], ◌<◌, ◌≤◌, length, Some, Contains, IsErr, IfOk, OnOk, OnErr, ◌⊎◌};
+ghost use Rattle.dh_ports.specs.Counts.{one_more, Rose};
+ghost use Rattle.dh_ports.specs.MemSink.{HasWritten, HasFailed};
+
+use crate::calls::{CallList, Calls};
+use crate::sinks::{Sink, WriteError};
+use std::alloc::Global;
+use std::marker::Model;
+
+/// A sink that keeps in memory what it takes, some of whose writes may be set to fail.
+#[derive(Debug, Drop)]
+pub struct MemSink {
+    bytes: Vec<u8>,
+    calls: Calls,
+}
+
+impl Model for MemSink {
+    ghost use Rattle.dh_ports.specs.MemSink.{SinkState};
+
+    ghost Value = { SinkState };
+
+    ghost view = { λ s. record {
+      written = s.bytes.items;
+      fails = s.calls.fails;
+      calls = s.calls.made;
+      faults = s.calls.failed;
+    } };
+}
+
+impl MemSink {
+    /// An empty sink, whose calls fail that `fails` lists. It takes no memory.
+    pub fn new(alloc: Global, fails: CallList) -> MemSink
+        ensures written { result.written ≡ [] }
+        ensures fails { result.fails ≡ fails }
+        ensures no_call { result.calls ≡ 0 }
+        ensures no_fault { result.faults ≡ 0 }
+    {
+        MemSink {
+            bytes: Vec::new(alloc),
+            calls: Calls::new(fails),
+        }
+    }
+
+    /// What was written so far.
+    pub fn written_bytes(&self) -> &[u8]
+        ensures { result.now ≡ self.now.written }
+    {
+        self.bytes.as_slice()
+    }
+
+    /// How many writes have failed. It stands still at `u64::MAX`.
+    pub fn fault_count(&self) -> u64
+        ensures { result ≡ self.now.faults }
+    {
+        self.calls.failed
+    }
+}
+
+impl Sink for MemSink {
+    ghost written = { λ s. Some s.written };
+
+    ghost faults = { λ s. s.faults };
+
+    /// Fails where the number of this call is listed, or where memory is wanting to keep the piece, and else takes
+    /// the whole piece.
+    fn write(&mut self, bytes: &[u8]) -> Result<usize, WriteError>
+        ensures fails { Contains self.old.fails (one_more self.old.calls) → IsErr result }
+        // Memory can only be wanting for a piece that has bytes.
+        ensures fails_only { OnErr result
+            (Contains self.old.fails (one_more self.old.calls) ⊎ (0 < length bytes.now)) }
+        ensures count { IfOk result (λ n. n ≡ length bytes.now) }
+        ensures taken { OnOk result (HasWritten self.old self.new bytes.now) }
+        ensures err { OnErr result (HasFailed self.old self.new) }
+        ensures counted { self.old.faults ≤ self.new.faults }
+        ensures failed { OnErr result (Rose self.old.faults self.new.faults) }
+    {
+        if self.calls.next_fails() || self.bytes.extend_from_slice(bytes).is_err() {
+            self.calls.count_failure();
+            return Err(WriteError::Failed);
+        }
+        Ok(bytes.len())
+    }
+}
+
+#[cfg(test)]
+mod tests {
+    use super::*;
+    use dh_syntax::Many;
+    use std::test::Fail;
+
+    fn write<S: Sink>(sink: &mut S, bytes: &[u8]) -> Result<usize, WriteError> {
+        sink.write(bytes)
+    }
+
+    #[test]
+    fn goes_on_after_the_first_write_failed(rt: HostRuntime) -> Result<(), Fail> {
+        let fails = Many::of([1].to_vec(rt.alloc())?);
+        let mut sink = MemSink::new(rt.alloc(), fails);
+        assert_eq!(rt; write(&mut sink, &[1, 2]), Err(WriteError::Failed));
+        assert_eq!(rt; write(&mut sink, &[3, 4]), Ok(2));
+        assert_eq!(rt; write(&mut sink, &[5]), Ok(1));
+        assert_eq!(rt; sink.written_bytes(), [3, 4, 5].as_slice());
+        assert_eq!(rt; sink.fault_count(), 1);
+        Ok(())
+    }
+}
