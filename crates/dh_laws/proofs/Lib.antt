@@ -1,3 +1,4 @@
+pub mod AlphaForms
 pub mod Cores
 pub mod Renamings
 pub mod Shifts
