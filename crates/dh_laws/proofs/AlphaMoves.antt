@@ -4,7 +4,7 @@ use Rattle.std.proofs.Common.{ap, sym, ◌∙◌, arith}
 use Rattle.dh_syntax.specs.declared.expressions.Op.{Op}
 use Rattle.dh_syntax.specs.Alpha.{blank, blank_binder, renamed, alpha_row, alpha_to, alpha}
 use Rattle.dh_syntax.specs.Moves.{Move, moved, moved_row}
-use Rattle.dh_syntax.specs.Nameless.{Bound, ref_of, core_below, raised, sub, Core}
+use Rattle.dh_syntax.specs.Nameless.{Bound, ref_of, core_below, raised, sub, at_place, Core}
 use Rattle.dh_syntax.specs.Nesting.{nesting, parts_nesting}
 use Rattle.dh_syntax.specs.Numbers.{bytes_eq}
 use Rattle.dh_syntax.specs.Subst.{under, index_under, is_var, shifting, shift_up, shift_down, put_under, subst, subst_row, is_free}
@@ -13,7 +13,7 @@ use Rattle.dh_syntax.proofs.AlphaEquations.{alpha-Leaf, alpha-Node, nesting-rena
 use Rattle.dh_syntax.proofs.Moves.{nesting-moved}
 use Rattle.dh_laws.proofs.AlphaForms.{core-renamed}
 use Rattle.dh_laws.proofs.Cores.{core-subst, core_below-one_to_one, IsSubstitution, substituted-below}
-use Rattle.dh_laws.proofs.FreeShifts.{IsFreeShift, shifting_free, free_shift-nowhere, free_shift-below, core-free_shift, at_place, at_place-substitutes, binding_all, ref_of-binding_all}
+use Rattle.dh_laws.proofs.FreeShifts.{IsFreeShift, shifting_free, free_shift-nowhere, free_shift-below, core-free_shift, at_place-substitutes, binding_all, ref_of-binding_all}
 use Rattle.dh_laws.proofs.Shifts.{down-up, up-down}
 
 -- Shifting and then renaming a binder to `_`.

@@ -2,7 +2,7 @@
 use Rattle.std.specs.Prelude.{◌≡◌, ℕ, zero, suc, Bool, true, false, cond, ◌&&◌, List, [], ◌∷◌, replicate, Option, Some, None, refl}
 use Rattle.std.proofs.Common.{ap, sym, ◌∙◌}
 use Rattle.dh_syntax.specs.Moves.{Move, moved, moved_row}
-use Rattle.dh_syntax.specs.Nameless.{Ref, Bound, Free, past, nearest, ref_of, going_nameless, core_below, var_of, sub_ref, sub, Core}
+use Rattle.dh_syntax.specs.Nameless.{Ref, Bound, Free, past, nearest, ref_of, going_nameless, core_below, var_of, sub_ref, sub, at_place, Core}
 use Rattle.dh_syntax.specs.Numbers.{eq, le, bytes_eq}
 use Rattle.dh_syntax.specs.Subst.{under, shifting, shift_up, subst}
 use Rattle.dh_syntax.specs.Tree.{Tree, Row, Leaf, Node, end, kid, Name, Var, Term}
@@ -48,14 +48,10 @@ core-free_shift x m k ys h e = moved-then _ _ k ys e ∙ moved-agree (free_shift
 
 -- Substitution for the variable of a binder above.
 
--- `c` for `Bound k`
-abbrev pub at_place : ℕ → Core → ℕ → Core
-at_place k c i = cond (eq i k) c (Leaf (Bound i))
-
 at_place-this : (k : ℕ) (c : Core) → at_place k c k ≡ c
 at_place-this k c = ap (λ (b : Bool). cond b c (Leaf (Bound k))) (eq-itself k)
 
-not_this : (ys : List Name) (x w : Name) (n j k i : ℕ) → ref_of ys x n ≡ Bound k → ref_of ys w j ≡ Bound i → (bytes_eq w x && eq j n) ≡ false → eq i k ≡ false
+pub not_this : (ys : List Name) (x w : Name) (n j k i : ℕ) → ref_of ys x n ≡ Bound k → ref_of ys w j ≡ Bound i → (bytes_eq w x && eq j n) ≡ false → eq i k ≡ false
 not_this ys x w n j k i h g f = at (eq i k) refl
   where
     at : (b : Bool) → eq i k ≡ b → b ≡ false

@@ -1,6 +1,9 @@
 pub mod AlphaForms
 pub mod AlphaMoves
+pub mod Contractions
 pub mod Cores
 pub mod FreeShifts
+pub mod Occurrences
 pub mod Renamings
+pub mod ShiftPairs
 pub mod Shifts
