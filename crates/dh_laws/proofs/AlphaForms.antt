@@ -1,14 +1,14 @@
 -- The α-normal form and the nameless form without names.
-use Rattle.std.specs.Prelude.{◌≡◌, ◌≤◌, ℕ, zero, suc, pred, Bool, true, false, cond, ◌&&◌, List, [], ◌∷◌, Option, Some, None, refl}
+use Rattle.std.specs.Prelude.{◌≡◌, ◌≤◌, ℕ, zero, suc, Bool, true, false, cond, List, [], ◌∷◌, Some, None, refl}
 use Rattle.std.proofs.Common.{ap, sym, ◌∙◌, arith, subst as along}
 use Rattle.std.proofs.Math.Path.{fun_ext}
-use Rattle.dh_syntax.specs.Alpha.{blank, blank_binder, renamed, alpha_row, alpha_to, alpha, IsSame, same}
-use Rattle.dh_syntax.specs.Moves.{Move, moved, moved_row}
-use Rattle.dh_syntax.specs.Nameless.{Ref, Bound, Free, ref_of, going_nameless, core_below, to_core, var_of, reading_back, term_below, from_core, forgetting, forget, blanking, with_blanks, bare, lifted, renamed_ref, renaming, ren, sub, Core, Bare}
+use Rattle.dh_syntax.specs.Alpha.{blank, renamed, alpha_row, alpha_to, alpha, IsSame}
+use Rattle.dh_syntax.specs.Moves.{moved_row}
+use Rattle.dh_syntax.specs.Nameless.{Ref, Bound, going_nameless, core_below, reading_back, term_below, from_core, forgetting, forget, blanking, with_blanks, bare, lifted, renamed_ref, sub, Core, Bare}
 use Rattle.dh_syntax.specs.Nesting.{nesting, parts_nesting}
-use Rattle.dh_syntax.specs.Numbers.{eq, le, bytes_eq}
-use Rattle.dh_syntax.specs.Subst.{under, shift_up, shift_down, subst, is_free}
-use Rattle.dh_syntax.specs.Tree.{Tree, Row, Leaf, Node, end, kid, Name, Var, Term}
+use Rattle.dh_syntax.specs.Numbers.{bytes_eq}
+use Rattle.dh_syntax.specs.Subst.{shift_up, shift_down, subst, is_free}
+use Rattle.dh_syntax.specs.Tree.{Row, Leaf, Node, end, kid, Name, Var, Term}
 use Rattle.dh_syntax.proofs.AlphaEquations.{nesting-renamed}
 use Rattle.dh_syntax.proofs.Numbers.{bytes_eq-true, bytes_eq-comm}
 use Rattle.dh_laws.proofs.Cores.{IsShiftedTo, shifted-below, shifted-by_one, lifted-past, core-shift_up, core-shift_down, core-subst, putting, putting-nearest, ren-suc-one_to_one, var_of-ref_of}
@@ -28,7 +28,7 @@ with_blank x e = shift_down x 0 (subst x 0 blank_var (shift_up blank 0 e))
 shifted-below_other : (x : Name) (ys : List Name) → bytes_eq x blank ≡ false → IsShiftedTo blank 0 (x ∷ ys) (x ∷ blank ∷ ys) (renamed_ref (lifted (λ k. suc k)))
 shifted-below_other x ys h =
     along (λ (b : Bool). IsShiftedTo blank (cond b 1 0) (x ∷ ys) (x ∷ blank ∷ ys) (renamed_ref (lifted (λ k. suc k)))) h
-        (shifted-below blank 0 ys (blank ∷ ys) (renamed_ref (λ k. suc k)) (renamed_ref (lifted (λ k. suc k))) refl (lifted-past (λ k. suc k)) x (shifted-by_one blank ys))
+    (shifted-below blank 0 ys (blank ∷ ys) (renamed_ref (λ k. suc k)) (renamed_ref (lifted (λ k. suc k))) refl (lifted-past (λ k. suc k)) x (shifted-by_one blank ys))
 
 core-blank_var : (x : Name) (ys : List Name) → bytes_eq x blank ≡ false → core_below (x ∷ blank ∷ ys) blank_var ≡ Leaf (Bound 1)
 core-blank_var x ys h = rw h refl
@@ -45,13 +45,13 @@ core-with_blank x ys e h =
     let up = shift_up blank 0 e in
     let c = core_below (x ∷ ys) e in
     ren-suc-one_to_one _ _
-        (core-shift_down x (blank ∷ ys) (subst x 0 blank_var up) (is_free-subst x 0 blank_var up (not_free-blank x h))
-        ∙ core-subst (x ∷ blank ∷ ys) x 0 blank_var (putting (core_below (x ∷ blank ∷ ys) blank_var)) (putting-nearest x (blank ∷ ys) _) up
-        ∙ ap (λ (d : Core). sub (putting d) (core_below (x ∷ blank ∷ ys) up)) (core-blank_var x ys h)
-        ∙ ap (sub (putting (Leaf (Bound 1)))) (core-shift_up blank 0 (x ∷ ys) (x ∷ blank ∷ ys) (lifted (λ k. suc k)) (shifted-below_other x ys h) e)
-        ∙ sub-ren (putting (Leaf (Bound 1))) (lifted (λ k. suc k)) c
-        ∙ ap (λ s. sub s c) (fun_ext putting-lifted)
-        ∙ sym (ren-is_sub (λ k. suc k) c))
+    (core-shift_down x (blank ∷ ys) (subst x 0 blank_var up) (is_free-subst x 0 blank_var up (not_free-blank x h))
+    ∙ core-subst (x ∷ blank ∷ ys) x 0 blank_var (putting (core_below (x ∷ blank ∷ ys) blank_var)) (putting-nearest x (blank ∷ ys) _) up
+    ∙ ap (λ (d : Core). sub (putting d) (core_below (x ∷ blank ∷ ys) up)) (core-blank_var x ys h)
+    ∙ ap (sub (putting (Leaf (Bound 1)))) (core-shift_up blank 0 (x ∷ ys) (x ∷ blank ∷ ys) (lifted (λ k. suc k)) (shifted-below_other x ys h) e)
+    ∙ sub-ren (putting (Leaf (Bound 1))) (lifted (λ k. suc k)) c
+    ∙ ap (λ s. sub s c) (fun_ext putting-lifted)
+    ∙ sym (ren-is_sub (λ k. suc k) c))
 
 -- Renaming a binder to `_` changes nothing of the nameless form below it.
 pub core-renamed : (x : Name) (ys : List Name) (e : Term) → core_below (blank ∷ ys) (renamed (Some x) e) ≡ core_below (x ∷ ys) e

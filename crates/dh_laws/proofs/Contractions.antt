@@ -1,11 +1,10 @@
 -- What was put for the variable of a binder, after a renaming or a substitution.
-use Rattle.std.specs.Prelude.{◌≡◌, ℕ, zero, suc, Bool, true, false, cond, List, [], ◌∷◌, refl}
+use Rattle.std.specs.Prelude.{◌≡◌, ℕ, zero, suc, Bool, cond, List, [], ◌∷◌, refl}
 use Rattle.std.proofs.Common.{ap, sym, ◌∙◌, subst as along}
 use Rattle.std.proofs.Math.Path.{fun_ext}
-use Rattle.dh_syntax.specs.Nameless.{Ref, Bound, ref_of, core_below, lifted, renamed_ref, ren, raised, sub, first, at_place, Core}
-use Rattle.dh_syntax.specs.Numbers.{bytes_eq}
+use Rattle.dh_syntax.specs.Nameless.{Ref, core_below, lifted, renamed_ref, ren, raised, sub, first, at_place, Core}
 use Rattle.dh_syntax.specs.Subst.{under, shift_up, shift_down, subst}
-use Rattle.dh_syntax.specs.Tree.{Tree, Leaf, Name, Term}
+use Rattle.dh_syntax.specs.Tree.{Tree, Name, Term}
 use Rattle.dh_syntax.proofs.Numbers.{bytes_eq-itself}
 use Rattle.dh_laws.proofs.Cores.{IsShiftedTo, shifted-by_one, shifted-below, lifted-past, core-shift_up, core-subst, substituted-below, core-contracted, core_below-one_to_one}
 use Rattle.dh_laws.proofs.FreeShifts.{at_place-substitutes, binding_all, ref_of-binding_all}
@@ -38,12 +37,12 @@ subst-put x n d y a b =
     let h = at_place-substitutes ys x n n (core_below ys d) (ref_of-binding_all x n) in
     let d' = shift_up y 0 d in
     core_below-one_to_one ys _ _
-        (core-subst ys x n d s h (put y a b)
-        ∙ ap (sub s) (core-contracted y ys a b)
-        ∙ sub-first s (core_below ys a) (core_below (y ∷ ys) b)
-        ∙ ap (λ (c : Core). sub (first c) (sub (raised s) (core_below (y ∷ ys) b))) (sym (core-subst ys x n d s h a))
-        ∙ ap (sub (first (core_below ys (subst x n d a)))) (sym (core-subst (y ∷ ys) x (under x y n) d' (raised s) (substituted-below ys x n d s y h) b))
-        ∙ sym (core-contracted y ys (subst x n d a) (subst x (under x y n) d' b)))
+    (core-subst ys x n d s h (put y a b)
+    ∙ ap (sub s) (core-contracted y ys a b)
+    ∙ sub-first s (core_below ys a) (core_below (y ∷ ys) b)
+    ∙ ap (λ (c : Core). sub (first c) (sub (raised s) (core_below (y ∷ ys) b))) (sym (core-subst ys x n d s h a))
+    ∙ ap (sub (first (core_below ys (subst x n d a)))) (sym (core-subst (y ∷ ys) x (under x y n) d' (raised s) (substituted-below ys x n d s y h) b))
+    ∙ sym (core-contracted y ys (subst x n d a) (subst x (under x y n) d' b)))
 
 -- so many binders of `x`, and what is put in below them
 copies : Name → ℕ → List Name → List Name
@@ -59,7 +58,7 @@ unfolding copies lifts
 shifted-copies x zero = shifted-by_one x []
 shifted-copies x (suc m) =
     along (λ (b : Bool). IsShiftedTo x (cond b (suc m) m) (copies x (suc m) []) (copies x (suc m) (x ∷ [])) (renamed_ref (lifts (suc m)))) (bytes_eq-itself x)
-        (shifted-below x m (copies x m []) (copies x m (x ∷ [])) (renamed_ref (lifts m)) (renamed_ref (lifts (suc m))) refl (lifted-past (lifts m)) x (shifted-copies x m))
+    (shifted-below x m (copies x m []) (copies x m (x ∷ [])) (renamed_ref (lifts m)) (renamed_ref (lifts (suc m))) refl (lifted-past (lifts m)) x (shifted-copies x m))
 
 pub shift_up-put : (x : Name) (m : ℕ) (y : Name) (a b : Term) → shift_up x m (put y a b) ≡ put y (shift_up x m a) (shift_up x (under x y m) b)
 shift_up-put x m y a b =
@@ -69,9 +68,9 @@ shift_up-put x m y a b =
     let h = shifted-copies x m in
     let below = shifted-below x m as' bs (renamed_ref f) (renamed_ref (lifted f)) refl (lifted-past f) y h in
     core_below-one_to_one bs _ _
-        (core-shift_up x m as' bs f h (put y a b)
-        ∙ ap (ren f) (core-contracted y as' a b)
-        ∙ ren-first f (core_below as' a) (core_below (y ∷ as') b)
-        ∙ ap (λ (c : Core). sub (first c) (ren (lifted f) (core_below (y ∷ as') b))) (sym (core-shift_up x m as' bs f h a))
-        ∙ ap (sub (first (core_below bs (shift_up x m a)))) (sym (core-shift_up x (under x y m) (y ∷ as') (y ∷ bs) (lifted f) below b))
-        ∙ sym (core-contracted y bs (shift_up x m a) (shift_up x (under x y m) b)))
+    (core-shift_up x m as' bs f h (put y a b)
+    ∙ ap (ren f) (core-contracted y as' a b)
+    ∙ ren-first f (core_below as' a) (core_below (y ∷ as') b)
+    ∙ ap (λ (c : Core). sub (first c) (ren (lifted f) (core_below (y ∷ as') b))) (sym (core-shift_up x m as' bs f h a))
+    ∙ ap (sub (first (core_below bs (shift_up x m a)))) (sym (core-shift_up x (under x y m) (y ∷ as') (y ∷ bs) (lifted f) below b))
+    ∙ sym (core-contracted y bs (shift_up x m a) (shift_up x (under x y m) b)))

@@ -1,11 +1,11 @@
 -- Shifting and substitution on nameless terms, below binders that bind nothing of them or the variable that is substituted.
-use Rattle.std.specs.Prelude.{◌≡◌, ℕ, zero, suc, Bool, true, false, cond, ◌&&◌, List, [], ◌∷◌, replicate, Option, Some, None, refl}
+use Rattle.std.specs.Prelude.{◌≡◌, ℕ, zero, suc, Bool, true, false, cond, ◌&&◌, List, [], ◌∷◌, refl}
 use Rattle.std.proofs.Common.{ap, sym, ◌∙◌}
-use Rattle.dh_syntax.specs.Moves.{Move, moved, moved_row}
-use Rattle.dh_syntax.specs.Nameless.{Ref, Bound, Free, past, nearest, ref_of, going_nameless, core_below, var_of, sub_ref, sub, at_place, Core}
-use Rattle.dh_syntax.specs.Numbers.{eq, le, bytes_eq}
-use Rattle.dh_syntax.specs.Subst.{under, shifting, shift_up, subst}
-use Rattle.dh_syntax.specs.Tree.{Tree, Row, Leaf, Node, end, kid, Name, Var, Term}
+use Rattle.dh_syntax.specs.Moves.{Move, moved}
+use Rattle.dh_syntax.specs.Nameless.{Ref, Bound, Free, past, nearest, ref_of, going_nameless, core_below, var_of, sub_ref, at_place, Core}
+use Rattle.dh_syntax.specs.Numbers.{eq, bytes_eq}
+use Rattle.dh_syntax.specs.Subst.{under, shifting, shift_up}
+use Rattle.dh_syntax.specs.Tree.{Leaf, Name, Var, Term}
 use Rattle.dh_syntax.proofs.Moves.{Agree, moved-agree, moved-then, then}
 use Rattle.dh_syntax.proofs.Numbers.{and-true_left, and-true_right, eq-itself, eq-true, bytes_eq-itself, bytes_eq-true}
 use Rattle.dh_laws.proofs.Cores.{IsShiftedTo, shifted-below, IsSubstitution, var_of-ref_of}
@@ -39,7 +39,7 @@ free_shift_agree : (x : Name) (m : ℕ) → Agree (then (shifting (λ k. suc k) 
 free_shift_agree x m = record {
   leaf = λ s t v h. h v.name v.index;
   binder = λ y. refl;
-  enter = λ s t y h. shifted-below x s.0 t.0 s.1 (shifted_ref x m) (shifted_ref x m) refl (shifted_ref-past x m) y h
+  enter = λ s t y h. shifted-below x s.0 t.0 s.1 (shifted_ref x m) (shifted_ref x m) refl (shifted_ref-past x m) y h;
 }
 
 pub core-free_shift : (x : Name) (m k : ℕ) (ys : List Name) → IsFreeShift x m k ys
@@ -58,7 +58,7 @@ not_this ys x w n j k i h g f = at (eq i k) refl
     at false p = refl
     at true p =
         let same : (record { name = w; index = j }) ≡ (record { name = x; index = n }) =
-              sym (var_of-ref_of ys w j) ∙ ap (var_of ys) (g ∙ ap Bound (eq-true i k p) ∙ sym h) ∙ var_of-ref_of ys x n in
+        sym (var_of-ref_of ys w j) ∙ ap (var_of ys) (g ∙ ap Bound (eq-true i k p) ∙ sym h) ∙ var_of-ref_of ys x n in
         let names : w ≡ x = ap (λ (v : Var). v.name) same in
         let indices : j ≡ n = ap (λ (v : Var). v.index) same in
         let t = ap (λ (y : Name). bytes_eq y x && eq j n) names ∙ ap (λ (i : ℕ). bytes_eq x x && eq i n) indices in

@@ -7,3 +7,4 @@ pub mod Occurrences
 pub mod Renamings
 pub mod ShiftPairs
 pub mod Shifts
+pub mod SubstPairs

@@ -1,5 +1,5 @@
 -- A variable is free in an expression exactly where it occurs in the nameless form, and so in the α-normal form.
-use Rattle.std.specs.Prelude.{◌≡◌, ℕ, zero, suc, Bool, true, false, cond, ◌&&◌, ◌||◌, List, [], ◌∷◌, Option, Some, None, refl}
+use Rattle.std.specs.Prelude.{◌≡◌, ℕ, zero, suc, Bool, true, false, cond, ◌&&◌, ◌||◌, List, ◌∷◌, Option, Some, None, refl}
 use Rattle.std.proofs.Common.{ap, sym, ◌∙◌}
 use Rattle.dh_syntax.specs.Alpha.{blank, renamed, alpha_row, alpha_to, alpha}
 use Rattle.dh_syntax.specs.Moves.{moved_row}
@@ -7,7 +7,7 @@ use Rattle.dh_syntax.specs.Nameless.{Ref, Bound, Free, past, nearest, ref_of, go
 use Rattle.dh_syntax.specs.Nesting.{nesting}
 use Rattle.dh_syntax.specs.Numbers.{eq, bytes_eq}
 use Rattle.dh_syntax.specs.Subst.{under, is_free, is_free_row}
-use Rattle.dh_syntax.specs.Tree.{Tree, Row, Leaf, Node, end, kid, Name, Var, Term}
+use Rattle.dh_syntax.specs.Tree.{Row, Leaf, Node, end, kid, Name, Var, Term}
 use Rattle.dh_syntax.proofs.Numbers.{and-true_left, and-true_right, eq-itself, eq-true, bytes_eq-true}
 use Rattle.dh_laws.proofs.AlphaForms.{core-renamed}
 use Rattle.dh_laws.proofs.FreeShifts.{not_this, binding_all, ref_of-binding_all}
@@ -71,8 +71,8 @@ is_free-renamed x n z e =
     let ys = binding_all x n in
     let h = ref_of-binding_all x n in
     is_free-occurs (blank ∷ ys) x (under x blank n) (suc n) (ref_of-below ys x n n blank h) (renamed (Some z) e)
-        ∙ ap (occurs (suc n)) (core-renamed z ys e)
-        ∙ sym (is_free-occurs (z ∷ ys) x (under x z n) (suc n) (ref_of-below ys x n n z h) e)
+    ∙ ap (occurs (suc n)) (core-renamed z ys e)
+    ∙ sym (is_free-occurs (z ∷ ys) x (under x z n) (suc n) (ref_of-below ys x n n z h) e)
 
 is_free_row-alpha : (f : Term → Term) (x : Name) → ((n : ℕ) (e : Term) → is_free x n (f e) ≡ is_free x n e)
     → (n : ℕ) (r : Row Var Name) → is_free_row x n (alpha_row f r) ≡ is_free_row x n r

@@ -1,12 +1,12 @@
 -- Two shifts, and a shift of what was substituted into.
-use Rattle.std.specs.Prelude.{◌≡◌, ℕ, zero, suc, Bool, true, false, cond, ◌&&◌, Option, Some, None, refl}
+use Rattle.std.specs.Prelude.{◌≡◌, ℕ, zero, suc, Bool, true, false, cond, Some, None, refl}
 use Rattle.std.proofs.Common.{ap, sym, ◌∙◌}
-use Rattle.dh_syntax.specs.Moves.{Move, moved, moved_row}
-use Rattle.dh_syntax.specs.Numbers.{eq, le, bytes_eq}
-use Rattle.dh_syntax.specs.Subst.{is_var, under, index_under, shifting, shift_up, put_under, subst, subst_row}
-use Rattle.dh_syntax.specs.Tree.{Tree, Row, Leaf, Node, end, kid, Name, Var, Term}
+use Rattle.dh_syntax.specs.Moves.{moved_row}
+use Rattle.dh_syntax.specs.Numbers.{le, bytes_eq}
+use Rattle.dh_syntax.specs.Subst.{is_var, under, shifting, shift_up, subst, subst_row}
+use Rattle.dh_syntax.specs.Tree.{Row, Leaf, Node, end, kid, Name, Var, Term}
 use Rattle.dh_syntax.proofs.Moves.{Agree, moved-agree, moved-then, then}
-use Rattle.dh_syntax.proofs.Numbers.{bytes_eq-true, bytes_eq-comm}
+use Rattle.dh_syntax.proofs.Numbers.{bytes_eq-comm}
 use Rattle.dh_laws.proofs.Shifts.{moved_index, same_test, same_test_right, leaf-up, under-shifted}
 
 -- Two shifts.
@@ -35,8 +35,8 @@ pair-leaf : (b c p : Bool) (m k n : ℕ) → (b ≡ true → c ≡ p) → (p ≡
 pair-leaf false c p m k n h l = refl
 pair-leaf true c true m k n h l =
     ap (λ (d : Bool). up (suc m) (moved_index (λ i. suc i) d k n)) (h refl)
-        ∙ up-up m k n (l refl)
-        ∙ sym (ap (λ (d : Bool). moved_index (λ i. suc i) d k (up m n)) (h refl))
+    ∙ up-up m k n (l refl)
+    ∙ sym (ap (λ (d : Bool). moved_index (λ i. suc i) d k (up m n)) (h refl))
 pair-leaf true c false m k n h l =
     ap (λ (d : Bool). up m (moved_index (λ i. suc i) d k n)) (h refl) ∙ sym (ap (λ (d : Bool). moved_index (λ i. suc i) d k (up m n)) (h refl))
 
@@ -68,8 +68,8 @@ pair_agree x y = record {
   enter = λ s t z h. record {
     first = ap (under y z) h.first;
     second = ap (under x z) h.second ∙ cond-under (bytes_eq x y) (bytes_eq z x) t.0;
-    below = λ p. le-under (bytes_eq z y) (bytes_eq z x) t.1 t.0 (sym (same_test_right x y z p)) (h.below p)
-  }
+    below = λ p. le-under (bytes_eq z y) (bytes_eq z x) t.1 t.0 (sym (same_test_right x y z p)) (h.below p);
+  };
 }
 
 -- Shifting at y from `k` and shifting at x from `m` can be exchanged; where x is y, `k` is at most `m`, and `m` is one more after the other shift.
@@ -77,8 +77,8 @@ pub up-exchanged : (x y : Name) (m k : ℕ) (e : Term) → (bytes_eq x y ≡ tru
     → shift_up x (cond (bytes_eq x y) (suc m) m) (shift_up y k e) ≡ shift_up y k (shift_up x m e)
 up-exchanged x y m k e h =
     moved-then _ _ k (cond (bytes_eq x y) (suc m) m) e
-        ∙ moved-agree (pair_agree x y) (k, cond (bytes_eq x y) (suc m) m) (m, k) e (record { first = refl; second = refl; below = h })
-        ∙ sym (moved-then _ _ m k e)
+    ∙ moved-agree (pair_agree x y) (k, cond (bytes_eq x y) (suc m) m) (m, k) e (record { first = refl; second = refl; below = h })
+    ∙ sym (moved-then _ _ m k e)
 
 -- A shift of what was substituted into.
 
@@ -109,7 +109,7 @@ mutual
       cc
   up-subst_row y k x n a (kid (Some z) e r) =
       let p = up-subst y (under y z k) x (under x z n) (shift_up z 0 a) e
-            ∙ ap (λ (i : ℕ). subst x i (shift_up y (under y z k) (shift_up z 0 a)) (shift_up y (under y z k) e)) (under-shifted y x z k n)
-            ∙ ap (λ (b : Term). subst x (under x z (moved_index (λ i. suc i) (bytes_eq x y) k n)) b (shift_up y (under y z k) e)) (sym (up-put_under y k z a)) in
+      ∙ ap (λ (i : ℕ). subst x i (shift_up y (under y z k) (shift_up z 0 a)) (shift_up y (under y z k) e)) (under-shifted y x z k n)
+      ∙ ap (λ (b : Term). subst x (under x z (moved_index (λ i. suc i) (bytes_eq x y) k n)) b (shift_up y (under y z k) e)) (sym (up-put_under y k z a)) in
       let q = up-subst_row y k x n a r in
       cc
