@@ -1,1 +1,4 @@
-pub mod Names
+pub mod Alpha
+pub mod Nameless
+pub mod Shifting
+pub mod Substituting

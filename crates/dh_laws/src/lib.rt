@@ -1,6 +1,25 @@
 //! Laws of the language, for the crates that rest on them: each is the contract of a function that does nothing.
 #![tactic(auto)]
 
-mod names;
+mod alpha;
+mod nameless;
+mod shifting;
+mod substituting;
 
-pub use names::{shift_up_nesting};
+pub use alpha::{
+    alpha_equations, alpha_nesting, alpha_of_shift_down, alpha_of_shift_up, alpha_of_subst,
+    alpha_once, free_after_alpha, same_decides, same_is_an_equivalence,
+};
+pub use nameless::{
+    alpha_reads_bare, core_of_put, core_of_shift_up, core_of_subst, forget_of_sub, reading_back,
+    ren_is_sub, ren_of_first, ren_of_ren, ren_of_sub, same_is_bare, sub_of_first, sub_of_ren,
+    sub_of_sub, sub_of_variables,
+};
+pub use shifting::{
+    down_undoes_up, free_after_up, not_free_after_up, shift_down_nesting, shift_up_nesting,
+    shifts_exchange, up_undoes_down,
+};
+pub use substituting::{
+    not_free_after_subst, shift_up_of_put, shift_up_of_subst, subst_nesting, subst_not_free,
+    subst_of_put, subst_of_subst, subst_variable_nesting,
+};

@@ -1,12 +1,12 @@
 -- The α-normal form by its two equations, and its nesting.
-use Rattle.std.specs.Prelude.{◌≡◌, ◌≤◌, ℕ, zero, suc, max, min, Bool, true, false, cond, Option, Some, None, refl}
-use Rattle.std.proofs.Common.{ap, sym, ◌∙◌, arith}
+use Rattle.std.specs.Prelude.{◌≡◌, ◌≤◌, ℕ, zero, suc, min, Bool, true, false, cond, Option, Some, None, refl}
+use Rattle.std.proofs.Common.{ap, ◌∙◌, arith}
 use Rattle.dh_syntax.specs.declared.expressions.Op.{Op}
-use Rattle.dh_syntax.specs.Alpha.{blank, blank_binder, renamed, alpha_row, alpha_to, alpha}
+use Rattle.dh_syntax.specs.Alpha.{blank, renamed, alpha_row, alpha_to, alpha}
 use Rattle.dh_syntax.specs.Nesting.{nesting, parts_nesting}
 use Rattle.dh_syntax.specs.Numbers.{bytes_eq}
-use Rattle.dh_syntax.specs.Subst.{shift_up, shift_down, subst, subst_row, is_var, under, index_under, reindexed}
-use Rattle.dh_syntax.specs.Tree.{Tree, Row, Leaf, Node, end, kid, Name, Var, Term}
+use Rattle.dh_syntax.specs.Subst.{shift_up, subst, subst_row, is_var, under, reindexed}
+use Rattle.dh_syntax.specs.Tree.{Row, Leaf, Node, end, kid, Name, Var, Term}
 use Rattle.dh_syntax.proofs.Moves.{nesting-moved}
 
 nesting-either : (b : Bool) (v w : Var) → nesting {A = Var} {B = Name} (cond b (Leaf v) (Leaf w)) ≡ 0
@@ -71,7 +71,7 @@ unfolding alpha
 alpha-Node op r =
     let n = parts_nesting r in
     alpha_to-enough n (suc n) (Node op r) (omega arith) (omega arith)
-        ∙ ap (Node op) (alpha_row-agree (alpha_to n) alpha n (λ e h. alpha_to-enough n (nesting e) e h (omega arith)) r (omega arith))
+    ∙ ap (Node op) (alpha_row-agree (alpha_to n) alpha n (λ e h. alpha_to-enough n (nesting e) e h (omega arith)) r (omega arith))
 
 alpha_row-nesting : (f : Term → Term) → ((e : Term) → nesting (f e) ≡ nesting e) → (r : Row Var Name) → parts_nesting (alpha_row f r) ≡ parts_nesting r
 alpha_row-nesting f h end = refl

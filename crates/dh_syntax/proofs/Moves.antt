@@ -1,7 +1,7 @@
 -- What every move keeps, and when two moves are one.
-use Rattle.std.specs.Prelude.{◌≡◌, ℕ, zero, suc, max, Option, Some, None, refl}
-use Rattle.std.proofs.Common.{ap, sym, ◌∙◌}
-use Rattle.dh_syntax.specs.Moves.{Move, moved, moved_row, moved_binder, entered}
+use Rattle.std.specs.Prelude.{◌≡◌, Some, None, refl}
+use Rattle.std.proofs.Common.{ap}
+use Rattle.dh_syntax.specs.Moves.{Move, moved, moved_row, entered}
 use Rattle.dh_syntax.specs.Nesting.{nesting, parts_nesting}
 use Rattle.dh_syntax.specs.Tree.{Tree, Row, Leaf, Node, end, kid}
 
@@ -22,7 +22,7 @@ abbrev pub then : {S T A B C D E F : Type 0} → Move S A B C D → Move T C D E
 then m n = record {
   leaf = λ s a. n.leaf s.1 (m.leaf s.0 a);
   binder = λ b. n.binder (m.binder b);
-  enter = λ s b. (m.enter s.0 b, n.enter s.1 (m.binder b))
+  enter = λ s b. (m.enter s.0 b, n.enter s.1 (m.binder b));
 }
 
 mutual

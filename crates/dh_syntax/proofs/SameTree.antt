@@ -1,9 +1,8 @@
 -- The tests of equality are true exactly where the two are equal.
-use Rattle.std.specs.Prelude.{◌≡◌, ◌↔◌, ℕ, Bool, true, false, ◌&&◌, List, [], ◌∷◌, Option, Some, None, IsTrue, refl}
-use Rattle.std.specs.Ordering.{int_eq}
+use Rattle.std.specs.Prelude.{◌≡◌, ℕ, Bool, true, false, ◌&&◌, List, [], ◌∷◌, Option, Some, None, refl}
 use Rattle.std.specs.Bool.{Decides}
 use Rattle.std.proofs.lemmas.Bool.Decides.{Decides-eqb, Decides-int_eq}
-use Rattle.std.proofs.Common.{ap, sym, ◌∙◌, subst}
+use Rattle.std.proofs.Common.{ap, subst}
 use Rattle.dh_syntax.specs.declared.expressions.Alt.{Alt}
 use Rattle.dh_syntax.specs.declared.expressions.Op.{Op}
 use Rattle.dh_syntax.specs.declared.expressions.Op.TheVariants as ops
@@ -20,7 +19,7 @@ use Rattle.dh_syntax.specs.declared.operators.Builtin.{Builtin}
 use Rattle.dh_syntax.specs.declared.operators.Builtin.TheVariants as builtins
 use Rattle.dh_syntax.specs.Numbers.{eq, bytes_eq}
 use Rattle.dh_syntax.specs.SameTree.{bool_eq, list_eq, option_eq, digest_eq, mode_eq, url_eq, loc_eq, import_eq, alt_eq, bin_eq, builtin_eq, op_eq, var_eq, term_eq, row_eq}
-use Rattle.dh_syntax.specs.Tree.{Tree, Row, Leaf, Node, end, kid, Name, Var, Term}
+use Rattle.dh_syntax.specs.Tree.{Row, Leaf, Node, end, kid, Name, Var, Term}
 use Rattle.dh_syntax.proofs.Numbers.{and-true_left, and-true_right, eq-itself, eq-true, bytes_eq-itself, bytes_eq-true}
 
 -- A test that is true of each thing with itself, and of equal things only.
@@ -179,6 +178,7 @@ builtin_eq-true builtins.ListReverse builtins.ListReverse h = refl
 builtin_eq-true builtins.TextShow builtins.TextShow h = refl
 builtin_eq-true builtins.TextReplace builtins.TextReplace h = refl
 builtin_eq-true _ _ h = cc
+
 digest_eq-itself : (d : Digest) → digest_eq d d ≡ true
 digest_eq-itself d = bytes_eq-itself d.0
 

@@ -1,0 +1,5 @@
+use Rattle.dh_laws.proofs.Cores.{core-shift_up_one}
+use Rattle.dh_laws.proofs.nameless.core_of_shift_up.Goals as goal
+
+pub returns : goal.returns
+returns c = core-shift_up_one

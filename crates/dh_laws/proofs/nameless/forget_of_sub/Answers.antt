@@ -1,0 +1,5 @@
+use Rattle.dh_laws.proofs.Renamings.{forget-sub}
+use Rattle.dh_laws.proofs.nameless.forget_of_sub.Goals as goal
+
+pub returns : goal.returns
+returns c = forget-sub

@@ -1,0 +1,8 @@
+use Rattle.dh_laws.proofs.Renamings.{ren-is_sub}
+use Rattle.dh_laws.proofs.nameless.ren_is_sub.Goals as goal
+
+pub returns-clause-with_names : goal.returns-clause-with_names
+returns-clause-with_names c = ren-is_sub
+
+pub returns-clause-without_names : goal.returns-clause-without_names
+returns-clause-without_names c = ren-is_sub

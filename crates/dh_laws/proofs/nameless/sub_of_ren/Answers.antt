@@ -1,0 +1,8 @@
+use Rattle.dh_laws.proofs.Renamings.{sub-ren}
+use Rattle.dh_laws.proofs.nameless.sub_of_ren.Goals as goal
+
+pub returns-clause-with_names : goal.returns-clause-with_names
+returns-clause-with_names c = sub-ren
+
+pub returns-clause-without_names : goal.returns-clause-without_names
+returns-clause-without_names c = sub-ren

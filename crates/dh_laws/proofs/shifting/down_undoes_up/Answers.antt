@@ -1,0 +1,5 @@
+use Rattle.dh_laws.proofs.Shifts.{down-up}
+use Rattle.dh_laws.proofs.shifting.down_undoes_up.Goals as goal
+
+pub returns : goal.returns
+returns c = down-up

@@ -1,0 +1,5 @@
+use Rattle.dh_laws.proofs.ShiftPairs.{up-exchanged}
+use Rattle.dh_laws.proofs.shifting.shifts_exchange.Goals as goal
+
+pub returns : goal.returns
+returns c = up-exchanged

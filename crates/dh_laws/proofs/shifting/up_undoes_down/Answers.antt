@@ -1,0 +1,5 @@
+use Rattle.dh_laws.proofs.Shifts.{up-down}
+use Rattle.dh_laws.proofs.shifting.up_undoes_down.Goals as goal
+
+pub returns : goal.returns
+returns c = up-down

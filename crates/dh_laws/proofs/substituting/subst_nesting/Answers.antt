@@ -1,0 +1,5 @@
+use Rattle.dh_laws.proofs.Shifts.{nesting-subst}
+use Rattle.dh_laws.proofs.substituting.subst_nesting.Goals as goal
+
+pub returns : goal.returns
+returns c = nesting-subst
