@@ -11,6 +11,8 @@ pub mod Characters
 pub mod ExampleTerms
 pub mod FaultLines
 pub mod LexExamples
+pub mod LexExamplesFaults
+pub mod LexExamplesLocations
 pub mod LexExamplesTexts
 pub mod LexForms
 pub mod LexGaps
@@ -21,6 +23,7 @@ pub mod LexNumbers
 pub mod LexTexts
 pub mod Lexing
 pub mod Literals
+pub mod LiteralsExamples
 pub mod LocationExamples
 pub mod Locations
 pub mod Moves
