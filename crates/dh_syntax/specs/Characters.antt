@@ -1,10 +1,12 @@
--- The classes of bytes and characters of the lexical grammar (`dhall.abnf`). A byte past ASCII is in none of them.
+-- The classes of bytes and characters of the lexical grammar (`dhall.abnf`), but for those that `Locations` has. A byte
+-- past ASCII is in none of them.
 use Rattle.std.specs.Prelude.{ℕ, zero, suc, ◌+◌, ◌-◌, ◌*◌, ◌%◌, Bool, ◌&&◌, ◌||◌, not, List, [], ◌∷◌, nat_eq, nat_lt, nat_le, ◌==◌, if◌then◌else◌, slice_index, codes}
 use Rattle.std.specs.Char.{is_ascii_alphabetic, is_ascii_alphanumeric, is_ascii_digit, is_ascii_hexdigit}
 use Rattle.std.specs.Int.{is_in_range}
 use Rattle.std.specs.List.{starts_with}
 use Rattle.std.specs.Str.{byte, continuation_len, lead_bits}
 use Prim.Native.String.{String}
+use Rattle.dh_syntax.specs.Locations.{is_kept_in_url}
 
 -- the first byte, 0 where there is none
 abbrev pub first : List ℕ → ℕ
@@ -38,12 +40,6 @@ is_printable b = is_in_range 0x20 0x7E b
 abbrev pub is_quoted_label_byte : ℕ → Bool
 is_quoted_label_byte b = is_printable b && not (b == byte "`")
 
--- path-character
-abbrev pub is_path_byte : ℕ → Bool
-is_path_byte b =
-    b == 0x21 || is_in_range 0x24 0x27 b || is_in_range 0x2A 0x2B b || is_in_range 0x2D 0x2E b || is_in_range 0x30 0x3B b
-    || b == 0x3D || is_in_range 0x40 0x5A b || is_in_range 0x5E 0x7A b || b == 0x7C || b == 0x7E
-
 -- quoted-path-character, in ASCII
 abbrev pub is_quoted_path_byte : ℕ → Bool
 is_quoted_path_byte b = is_printable b && not (b == byte "\"") && not (b == byte "/")
@@ -52,21 +48,9 @@ is_quoted_path_byte b = is_printable b && not (b == byte "\"") && not (b == byte
 abbrev pub is_host_byte : ℕ → Bool
 is_host_byte b = is_ascii_alphanumeric b || b == byte "-"
 
--- sub-delims
-abbrev pub is_sub_delim : ℕ → Bool
-is_sub_delim b = b == byte "!" || b == byte "$" || b == byte "&" || b == byte "'" || b == byte "*" || b == byte "+" || b == byte ";" || b == byte "="
-
--- unreserved
-abbrev pub is_unreserved : ℕ → Bool
-is_unreserved b = is_ascii_alphanumeric b || b == byte "-" || b == byte "." || b == byte "_" || b == byte "~"
-
--- pchar, but for pct-encoded
-abbrev pub is_segment_byte : ℕ → Bool
-is_segment_byte b = is_unreserved b || is_sub_delim b || b == byte ":" || b == byte "@"
-
 -- a byte of query, but for pct-encoded
 abbrev pub is_query_byte : ℕ → Bool
-is_query_byte b = is_segment_byte b || b == byte "/" || b == byte "?"
+is_query_byte b = is_kept_in_url b || b == byte "/" || b == byte "?"
 
 -- the first byte of bash-environment-variable, and a later one
 abbrev pub is_environment_start : ℕ → Bool

@@ -9,8 +9,9 @@ use Rattle.dh_syntax.specs.declared.locations.Loc.{Loc}
 use Rattle.dh_syntax.specs.declared.locations.Loc.TheVariants as locs
 use Rattle.dh_syntax.specs.declared.locations.Url.{Url}
 use Rattle.dh_syntax.specs.declared.tokens.TokenKind.TheVariants as kinds
-use Rattle.dh_syntax.specs.Characters.{first, begins, is_path_byte, is_quoted_path_byte, is_host_byte, is_segment_byte, is_query_byte, is_environment_start, is_environment_byte, is_quoted_environment_byte}
+use Rattle.dh_syntax.specs.Characters.{first, begins, is_quoted_path_byte, is_host_byte, is_query_byte, is_environment_start, is_environment_byte, is_quoted_environment_byte}
 use Rattle.dh_syntax.specs.LexForms.{Is, LeftOut, Faulty, Form, form, longest}
+use Rattle.dh_syntax.specs.Locations.{is_path_character, is_kept_in_url}
 
 -- a component: the text between two slashes, and how many bytes it takes
 pub record Component : Type 0 where
@@ -46,7 +47,7 @@ components component zero (b ∷ bs) = by_component (if b == byte "/" then compo
 -- unquoted-path-component
 abbrev pub plain_component : List ℕ → Option Component
 plain_component bs =
-    let n = prefix_len is_path_byte bs in
+    let n = prefix_len is_path_character bs in
     if nat_lt 0 n then Some (record { text = take n bs; len = n }) else None
 
 -- quoted-path-component between quotes
@@ -128,7 +129,7 @@ url_chars_len plain zero (b ∷ bs) = by_url_char (url_char_len plain (b ∷ bs)
 -- segment
 abbrev pub segment : List ℕ → Option Component
 segment bs =
-    let n = url_chars_len is_segment_byte 0 bs in
+    let n = url_chars_len is_kept_in_url 0 bs in
     Some (record { text = take n bs; len = n })
 
 -- a URL without a path has one empty component

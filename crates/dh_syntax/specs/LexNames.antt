@@ -2,100 +2,105 @@
 use Rattle.std.specs.Prelude.{ℕ, suc, ◌+◌, Bool, true, false, ◌&&◌, List, [], ◌∷◌, ◌++◌, Option, None, ◌==◌, if◌then◌else◌, take, drop, slice_index, codes, bytes_eq}
 use Rattle.std.specs.List.{prefix_len}
 use Rattle.std.specs.Str.{byte}
-use Prim.Native.String.{String}
+use Rattle.dh_syntax.specs.declared.operators.Builtin.{Builtin}
 use Rattle.dh_syntax.specs.declared.operators.Builtin.TheVariants as builtins
 use Rattle.dh_syntax.specs.declared.tokens.Keyword.TheVariants as keywords
 use Rattle.dh_syntax.specs.declared.tokens.Mark.TheVariants as marks
 use Rattle.dh_syntax.specs.declared.tokens.TokenKind.TheVariants as kinds
 use Rattle.dh_syntax.specs.Characters.{first, begins, is_name_start, is_name_byte, is_quoted_label_byte}
 use Rattle.dh_syntax.specs.LexForms.{Found, Is, LeftOut, Form, form}
+use Rattle.dh_syntax.specs.Operators.{builtin_name}
 
 -- a whole name, and what it is
 pub record Reserved : Type 0 where
-  pub spelling : String
+  pub spelling : List ℕ
   pub meaning : Found
 
-abbrev pub reserved : String → Found → Reserved
+abbrev pub reserved : List ℕ → Found → Reserved
 reserved spelling meaning = record { spelling = spelling; meaning = meaning }
 
 -- keyword
 abbrev pub keyword_names : List Reserved
 keyword_names =
-    reserved "if" (Is (kinds.Keyword keywords.If))
-    ∷ reserved "then" (Is (kinds.Keyword keywords.Then))
-    ∷ reserved "else" (Is (kinds.Keyword keywords.Else))
-    ∷ reserved "let" (Is (kinds.Keyword keywords.Let))
-    ∷ reserved "in" (Is (kinds.Keyword keywords.In))
-    ∷ reserved "missing" (Is (kinds.Keyword keywords.Missing))
-    ∷ reserved "assert" (Is (kinds.Keyword keywords.Assert))
-    ∷ reserved "as" (Is (kinds.Keyword keywords.As))
-    ∷ reserved "merge" (Is (kinds.Keyword keywords.Merge))
-    ∷ reserved "Some" (Is (kinds.Keyword keywords.Some))
-    ∷ reserved "toMap" (Is (kinds.Keyword keywords.ToMap))
-    ∷ reserved "with" (Is (kinds.Keyword keywords.With))
-    ∷ reserved "forall" (Is (kinds.Mark marks.Forall))
+    reserved (codes "if") (Is (kinds.Keyword keywords.If))
+    ∷ reserved (codes "then") (Is (kinds.Keyword keywords.Then))
+    ∷ reserved (codes "else") (Is (kinds.Keyword keywords.Else))
+    ∷ reserved (codes "let") (Is (kinds.Keyword keywords.Let))
+    ∷ reserved (codes "in") (Is (kinds.Keyword keywords.In))
+    ∷ reserved (codes "missing") (Is (kinds.Keyword keywords.Missing))
+    ∷ reserved (codes "assert") (Is (kinds.Keyword keywords.Assert))
+    ∷ reserved (codes "as") (Is (kinds.Keyword keywords.As))
+    ∷ reserved (codes "merge") (Is (kinds.Keyword keywords.Merge))
+    ∷ reserved (codes "Some") (Is (kinds.Keyword keywords.Some))
+    ∷ reserved (codes "toMap") (Is (kinds.Keyword keywords.ToMap))
+    ∷ reserved (codes "with") (Is (kinds.Keyword keywords.With))
+    ∷ reserved (codes "forall") (Is (kinds.Mark marks.Forall))
     ∷ []
+
+-- a built-in name
+abbrev pub built_in : Builtin → Reserved
+built_in b = reserved (builtin_name b) (Is (kinds.Builtin b))
 
 -- builtin
 abbrev pub built_in_names : List Reserved
 built_in_names =
-    reserved "True" (Is (kinds.Bool true))
-    ∷ reserved "False" (Is (kinds.Bool false))
-    ∷ reserved "Type" (Is (kinds.Builtin builtins.TypeConst))
-    ∷ reserved "Kind" (Is (kinds.Builtin builtins.Kind))
-    ∷ reserved "Sort" (Is (kinds.Builtin builtins.Sort))
-    ∷ reserved "Bool" (Is (kinds.Builtin builtins.Bool))
-    ∷ reserved "Natural" (Is (kinds.Builtin builtins.Natural))
-    ∷ reserved "Integer" (Is (kinds.Builtin builtins.Integer))
-    ∷ reserved "Text" (Is (kinds.Builtin builtins.Text))
-    ∷ reserved "List" (Is (kinds.Builtin builtins.List))
-    ∷ reserved "Optional" (Is (kinds.Builtin builtins.Optional))
-    ∷ reserved "None" (Is (kinds.Builtin builtins.None))
-    ∷ reserved "Natural/fold" (Is (kinds.Builtin builtins.NaturalFold))
-    ∷ reserved "Natural/build" (Is (kinds.Builtin builtins.NaturalBuild))
-    ∷ reserved "Natural/isZero" (Is (kinds.Builtin builtins.NaturalIsZero))
-    ∷ reserved "Natural/even" (Is (kinds.Builtin builtins.NaturalEven))
-    ∷ reserved "Natural/odd" (Is (kinds.Builtin builtins.NaturalOdd))
-    ∷ reserved "Natural/toInteger" (Is (kinds.Builtin builtins.NaturalToInteger))
-    ∷ reserved "Natural/show" (Is (kinds.Builtin builtins.NaturalShow))
-    ∷ reserved "Natural/subtract" (Is (kinds.Builtin builtins.NaturalSubtract))
-    ∷ reserved "Integer/show" (Is (kinds.Builtin builtins.IntegerShow))
-    ∷ reserved "Integer/negate" (Is (kinds.Builtin builtins.IntegerNegate))
-    ∷ reserved "Integer/clamp" (Is (kinds.Builtin builtins.IntegerClamp))
-    ∷ reserved "List/build" (Is (kinds.Builtin builtins.ListBuild))
-    ∷ reserved "List/fold" (Is (kinds.Builtin builtins.ListFold))
-    ∷ reserved "List/length" (Is (kinds.Builtin builtins.ListLength))
-    ∷ reserved "List/head" (Is (kinds.Builtin builtins.ListHead))
-    ∷ reserved "List/last" (Is (kinds.Builtin builtins.ListLast))
-    ∷ reserved "List/indexed" (Is (kinds.Builtin builtins.ListIndexed))
-    ∷ reserved "List/reverse" (Is (kinds.Builtin builtins.ListReverse))
-    ∷ reserved "Text/show" (Is (kinds.Builtin builtins.TextShow))
-    ∷ reserved "Text/replace" (Is (kinds.Builtin builtins.TextReplace))
+    reserved (codes "True") (Is (kinds.Bool true))
+    ∷ reserved (codes "False") (Is (kinds.Bool false))
+    ∷ built_in builtins.TypeConst
+    ∷ built_in builtins.Kind
+    ∷ built_in builtins.Sort
+    ∷ built_in builtins.Bool
+    ∷ built_in builtins.Natural
+    ∷ built_in builtins.Integer
+    ∷ built_in builtins.Text
+    ∷ built_in builtins.List
+    ∷ built_in builtins.Optional
+    ∷ built_in builtins.None
+    ∷ built_in builtins.NaturalFold
+    ∷ built_in builtins.NaturalBuild
+    ∷ built_in builtins.NaturalIsZero
+    ∷ built_in builtins.NaturalEven
+    ∷ built_in builtins.NaturalOdd
+    ∷ built_in builtins.NaturalToInteger
+    ∷ built_in builtins.NaturalShow
+    ∷ built_in builtins.NaturalSubtract
+    ∷ built_in builtins.IntegerShow
+    ∷ built_in builtins.IntegerNegate
+    ∷ built_in builtins.IntegerClamp
+    ∷ built_in builtins.ListBuild
+    ∷ built_in builtins.ListFold
+    ∷ built_in builtins.ListLength
+    ∷ built_in builtins.ListHead
+    ∷ built_in builtins.ListLast
+    ∷ built_in builtins.ListIndexed
+    ∷ built_in builtins.ListReverse
+    ∷ built_in builtins.TextShow
+    ∷ built_in builtins.TextReplace
     ∷ []
 
 -- the keywords and built-in names that are left out
 abbrev pub names_left_out : List Reserved
 names_left_out =
-    reserved "Double" LeftOut
-    ∷ reserved "Double/show" LeftOut
-    ∷ reserved "Integer/toDouble" LeftOut
-    ∷ reserved "Date" LeftOut
-    ∷ reserved "Date/show" LeftOut
-    ∷ reserved "Time" LeftOut
-    ∷ reserved "Time/show" LeftOut
-    ∷ reserved "TimeZone" LeftOut
-    ∷ reserved "TimeZone/show" LeftOut
-    ∷ reserved "Bytes" LeftOut
-    ∷ reserved "showConstructor" LeftOut
-    ∷ reserved "using" LeftOut
-    ∷ reserved "Infinity" LeftOut
-    ∷ reserved "NaN" LeftOut
+    reserved (codes "Double") LeftOut
+    ∷ reserved (codes "Double/show") LeftOut
+    ∷ reserved (codes "Integer/toDouble") LeftOut
+    ∷ reserved (codes "Date") LeftOut
+    ∷ reserved (codes "Date/show") LeftOut
+    ∷ reserved (codes "Time") LeftOut
+    ∷ reserved (codes "Time/show") LeftOut
+    ∷ reserved (codes "TimeZone") LeftOut
+    ∷ reserved (codes "TimeZone/show") LeftOut
+    ∷ reserved (codes "Bytes") LeftOut
+    ∷ reserved (codes "showConstructor") LeftOut
+    ∷ reserved (codes "using") LeftOut
+    ∷ reserved (codes "Infinity") LeftOut
+    ∷ reserved (codes "NaN") LeftOut
     ∷ []
 
 -- what a whole name is, by a list of names that are no labels
 abbrev pub named_in : List Reserved → List ℕ → Found
 named_in [] name = Is (kinds.Name name)
-named_in (r ∷ rs) name = if bytes_eq (codes r.spelling) name then r.meaning else named_in rs name
+named_in (r ∷ rs) name = if bytes_eq r.spelling name then r.meaning else named_in rs name
 
 -- what a whole name is
 abbrev pub named : List ℕ → Found
