@@ -1,7 +1,7 @@
 -- The classes of bytes and characters of the lexical grammar (`dhall.abnf`), but for those that `Locations` has. A byte
 -- past ASCII is in none of them.
 use Rattle.std.specs.Prelude.{ℕ, zero, suc, ◌+◌, ◌-◌, ◌*◌, ◌%◌, Bool, ◌&&◌, ◌||◌, not, List, [], ◌∷◌, nat_eq, nat_lt, nat_le, ◌==◌, if◌then◌else◌, slice_index, codes}
-use Rattle.std.specs.Char.{is_ascii_alphabetic, is_ascii_alphanumeric, is_ascii_digit, is_ascii_hexdigit}
+use Rattle.std.specs.Char.{is_ascii_alphabetic, is_ascii_alphanumeric}
 use Rattle.std.specs.Int.{is_in_range}
 use Rattle.std.specs.List.{starts_with}
 use Rattle.std.specs.Str.{byte, continuation_len, lead_bits}

@@ -1,5 +1,5 @@
 -- What the lexer reads: names, numbers, marks and what stands between tokens. The expected tokens are worked out by hand.
-use Rattle.std.specs.Prelude.{◌≡◌, refl, ℕ, ◌-◌, ◌^◌, Bool, true, false, List, [], ◌∷◌, ◌++◌, Result, Ok, Err, codes, pos, negsuc, encode_utf8_all}
+use Rattle.std.specs.Prelude.{◌≡◌, refl, ℕ, ◌-◌, ◌^◌, true, false, List, [], ◌∷◌, ◌++◌, Result, Ok, Err, codes, pos, negsuc, encode_utf8_all}
 use Rattle.std.specs.Char.{encode_utf8}
 use Prim.Native.String.{String}
 use Rattle.dh_syntax.specs.declared.operators.BinOp.TheVariants as binary
@@ -10,7 +10,7 @@ use Rattle.dh_syntax.specs.declared.tokens.Token.{Token}
 use Rattle.dh_syntax.specs.declared.tokens.TokenKind.{TokenKind}
 use Rattle.dh_syntax.specs.declared.tokens.TokenKind.TheVariants as kinds
 use Rattle.dh_syntax.specs.declared.tokens.TokenKind.TheVariants.{Name, Quoted, Natural, Integer, Mark, End}
-use Rattle.dh_syntax.specs.Lexing.{LexFault, Bad, Wide, Out, lex}
+use Rattle.dh_syntax.specs.Lexing.{LexFault, lex}
 
 -- the UTF-8 bytes of a text
 abbrev pub utf8 : String → List ℕ

@@ -3,10 +3,8 @@
 use Rattle.std.specs.Prelude.{◌≡◌, refl, true, List, [], ◌∷◌, Err, map}
 use Rattle.std.specs.Char.{encode_utf8}
 use Prim.Native.String.{String}
-use Rattle.dh_syntax.specs.declared.operators.Builtin.TheVariants as builtins
 use Rattle.dh_syntax.specs.declared.tokens.Keyword.TheVariants as keywords
 use Rattle.dh_syntax.specs.declared.tokens.Mark.TheVariants as marks
-use Rattle.dh_syntax.specs.declared.tokens.Token.{Token}
 use Rattle.dh_syntax.specs.declared.tokens.TokenKind.TheVariants as kinds
 use Rattle.dh_syntax.specs.LexExamples.{utf8, Reads, named}
 use Rattle.dh_syntax.specs.Lexing.{LexFault, Bad, Wide, Out, lex}
@@ -23,7 +21,7 @@ unfolding lex encode_utf8
 no_form_fits = refl
 
 control_characters :
-    AllFault (("\u{0}", Bad 0) ∷ ("x\u{b}", Bad 1) ∷ ("x\u{7f}", Bad 1) ∷ ("-- \u{1}", Bad 3) ∷ ("{- \u{1} -}", Bad 3)
+    AllFault (("\0", Bad 0) ∷ ("x\u{b}", Bad 1) ∷ ("x\u{7f}", Bad 1) ∷ ("-- \u{1}", Bad 3) ∷ ("{- \u{1} -}", Bad 3)
     ∷ ("#!\u{1f}", Bad 2) ∷ ("\"\u{1}\"", Bad 1) ∷ ("''\n\u{1}''", Bad 3) ∷ [])
 unfolding lex encode_utf8
 control_characters = refl

@@ -1,5 +1,5 @@
 -- What the lexer reads of text literals, with interpolations to any depth.
-use Rattle.std.specs.Prelude.{◌≡◌, refl, ℕ, List, [], ◌∷◌, ◌++◌, Ok, codes}
+use Rattle.std.specs.Prelude.{◌≡◌, refl, [], ◌∷◌, Ok}
 use Rattle.std.specs.Char.{encode_utf8}
 use Prim.Native.String.{String}
 use Rattle.dh_syntax.specs.declared.operators.BinOp.TheVariants as binary

@@ -1,9 +1,9 @@
 -- What stands between tokens: "whitespace-chunk" of `dhall.abnf`, with its comments, and the lines of "shebang".
 use Rattle.std.specs.Prelude.{ℕ, zero, suc, pred, ◌+◌, ◌||◌, List, [], ◌∷◌, Option, Some, None, nat_lt, ◌==◌, if◌then◌else◌, drop}
 use Rattle.std.specs.Str.{byte}
-use Rattle.dh_syntax.specs.Characters.{first, begins, tab, line_end_len, char_len}
+use Rattle.dh_syntax.specs.Characters.{first, begins, tab, line_end_len}
 use Rattle.dh_syntax.specs.Stretches.{Character, Reads, Ends, Faults, stretch, itself, good_character}
-use Rattle.dh_syntax.specs.LexForms.{Found, White, SkippedLine, Faulty, Unclosed, Form, form, stretching}
+use Rattle.dh_syntax.specs.LexForms.{White, SkippedLine, Faulty, Unclosed, Form, form, stretching}
 
 -- a space, a tab or an end-of-line
 abbrev pub white_space : List ℕ → Option Form

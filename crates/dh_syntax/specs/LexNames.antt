@@ -1,5 +1,5 @@
 -- Names: "simple-label" and "quoted-label" of `dhall.abnf`, the keywords and the built-in names.
-use Rattle.std.specs.Prelude.{ℕ, suc, ◌+◌, Bool, true, false, ◌&&◌, List, [], ◌∷◌, ◌++◌, Option, None, ◌==◌, if◌then◌else◌, take, drop, slice_index, codes, bytes_eq}
+use Rattle.std.specs.Prelude.{ℕ, ◌+◌, true, false, ◌&&◌, List, [], ◌∷◌, ◌++◌, Option, None, ◌==◌, if◌then◌else◌, take, drop, slice_index, codes, bytes_eq}
 use Rattle.std.specs.List.{prefix_len}
 use Rattle.std.specs.Str.{byte}
 use Rattle.dh_syntax.specs.declared.operators.Builtin.{Builtin}

@@ -1,6 +1,5 @@
 -- Text literals: "double-quote-literal" and "single-quote-literal" of `dhall.abnf`.
-use Rattle.std.specs.Prelude.{ℕ, suc, ◌+◌, not, ◌&&◌, ◌||◌, List, [], ◌∷◌, Option, None, nat_lt, ◌==◌, if◌then◌else◌, drop, codes}
-use Rattle.std.specs.Str.{byte}
+use Rattle.std.specs.Prelude.{ℕ, ◌+◌, not, ◌&&◌, ◌||◌, List, [], ◌∷◌, Option, None, nat_lt, ◌==◌, if◌then◌else◌, drop, codes}
 use Rattle.dh_syntax.specs.declared.tokens.TextForm.{TextForm}
 use Rattle.dh_syntax.specs.declared.tokens.TextForm.TheVariants.{DoubleQuoted, MultiLine}
 use Rattle.dh_syntax.specs.declared.tokens.TokenKind.TheVariants as kinds

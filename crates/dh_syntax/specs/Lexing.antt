@@ -9,7 +9,7 @@ use Rattle.dh_syntax.specs.declared.tokens.Token.{Token}
 use Rattle.dh_syntax.specs.declared.tokens.TokenKind.{TokenKind}
 use Rattle.dh_syntax.specs.declared.tokens.TokenKind.TheVariants as kinds
 use Rattle.dh_syntax.specs.Characters.{first, code_at, is_noncharacter}
-use Rattle.dh_syntax.specs.LexForms.{Found, White, SkippedLine, Is, LeftOut, TooWide, Faulty, Unclosed, Form, form, longest}
+use Rattle.dh_syntax.specs.LexForms.{Found, White, SkippedLine, Is, LeftOut, TooWide, Faulty, Unclosed, Form, longest}
 use Rattle.dh_syntax.specs.LexGaps.{white_space, line_comment, block_comment, skipped_line}
 use Rattle.dh_syntax.specs.LexNames.{name, quoted_name, minus_infinity}
 use Rattle.dh_syntax.specs.LexNumbers.{natural, integer, double, signed_double, date, time, signed_time, binary, bytes_literal}

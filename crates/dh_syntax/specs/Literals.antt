@@ -6,8 +6,8 @@ use Rattle.std.specs.Fmt.{digit_glyph}
 use Rattle.std.specs.List.{prefix_len, common_prefix_len, slice_split, join_with_byte, list_all}
 use Rattle.std.specs.Str.{byte}
 use Rattle.std.specs.Str.Parse.{digits_value}
-use Rattle.dh_syntax.specs.Characters.{first, tab, line_feed, carriage_return, is_control, is_scalar, is_noncharacter}
-use Rattle.dh_syntax.specs.Stretches.{Character, Reads, Ends, Faults, Stretch, UpTo, FaultAt, stretch, itself}
+use Rattle.dh_syntax.specs.Characters.{first, tab, line_feed, is_control, is_scalar, is_noncharacter}
+use Rattle.dh_syntax.specs.Stretches.{Character, Reads, Faults, Stretch, UpTo, FaultAt, stretch, itself}
 
 -- an escape of so many bytes that names a character by its number
 abbrev pub numbered : ℕ → ℕ → Character

@@ -1,6 +1,6 @@
 -- Numbers as they are written: "natural-literal" and "integer-literal" of `dhall.abnf`, and the one spelling that is
 -- printed.
-use Rattle.std.specs.Prelude.{ℕ, zero, suc, ◌+◌, ◌^◌, Bool, not, ◌&&◌, ◌||◌, nat_lt, nat_le, ◌==◌, if◌then◌else◌, List, [], ◌∷◌, length, take, drop, slice_index, Option, Some, None, ℤ, pos, negsuc, neg_ℤ, decimal}
+use Rattle.std.specs.Prelude.{ℕ, suc, ◌+◌, ◌^◌, Bool, ◌&&◌, nat_lt, ◌==◌, if◌then◌else◌, List, ◌∷◌, length, drop, slice_index, Option, Some, None, ℤ, pos, negsuc, neg_ℤ, decimal}
 use Rattle.std.specs.Char.{is_ascii_digit, is_ascii_hexdigit}
 use Rattle.std.specs.List.{prefix_len}
 use Rattle.std.specs.Str.{byte}
