@@ -1,5 +1,6 @@
 pub mod AlphaEquations
 pub mod Bridge
+pub mod LexingLaws
 pub mod LocationLaws
 pub mod Moves
 pub mod Numbers
