@@ -48,14 +48,19 @@ is_quoted_path_byte b = is_printable b && not (b == byte "\"") && not (b == byte
 abbrev pub is_host_byte : ℕ → Bool
 is_host_byte b = is_ascii_alphanumeric b || b == byte "-"
 
+-- pchar, but for pct-encoded
+abbrev pub is_segment_byte : ℕ → Bool
+is_segment_byte b = is_kept_in_url b
+
 -- a byte of query, but for pct-encoded
 abbrev pub is_query_byte : ℕ → Bool
-is_query_byte b = is_kept_in_url b || b == byte "/" || b == byte "?"
+is_query_byte b = is_segment_byte b || b == byte "/" || b == byte "?"
 
--- the first byte of bash-environment-variable, and a later one
+-- the first byte of bash-environment-variable
 abbrev pub is_environment_start : ℕ → Bool
 is_environment_start b = is_ascii_alphabetic b || b == byte "_"
 
+-- a later byte of bash-environment-variable
 abbrev pub is_environment_byte : ℕ → Bool
 is_environment_byte b = is_ascii_alphanumeric b || b == byte "_"
 
@@ -67,6 +72,7 @@ is_quoted_environment_byte b = is_printable b && not (b == byte "\"") && not (b 
 abbrev pub is_control : ℕ → Bool
 is_control b = nat_lt b 0x20
 
+-- the control characters that the grammar takes
 abbrev pub tab : ℕ
 tab = 0x09
 

@@ -3,9 +3,12 @@ use Rattle.std.specs.Prelude.{◌≡◌, refl, [], ◌∷◌, Ok}
 use Rattle.std.specs.Char.{encode_utf8}
 use Prim.Native.String.{String}
 use Rattle.dh_syntax.specs.declared.operators.BinOp.TheVariants as binary
+use Rattle.dh_syntax.specs.declared.operators.Builtin.TheVariants as builtins
+use Rattle.dh_syntax.specs.declared.tokens.Keyword.TheVariants as keywords
 use Rattle.dh_syntax.specs.declared.tokens.Mark.TheVariants as marks
 use Rattle.dh_syntax.specs.declared.tokens.TextForm.TheVariants.{DoubleQuoted, MultiLine}
 use Rattle.dh_syntax.specs.declared.tokens.TokenKind.{TokenKind}
+use Rattle.dh_syntax.specs.declared.tokens.TokenKind.TheVariants as kinds
 use Rattle.dh_syntax.specs.declared.tokens.TokenKind.TheVariants.{Natural, TextOpen, TextPiece, InterpolationOpen, InterpolationClose, TextClose, Mark, End}
 use Rattle.dh_syntax.specs.LexExamples.{utf8, spaced, joined, named, Reads}
 use Rattle.dh_syntax.specs.Lexing.{lex}
@@ -166,9 +169,30 @@ multi_line_quotes : Reads "''\na'b''''''c''" (TextOpen MultiLine ∷ piece "a'b'
 unfolding lex encode_utf8
 multi_line_quotes = refl
 
+-- two quotes and the closing
+five_quotes : Reads "''\n'''''" (TextOpen MultiLine ∷ piece "''" ∷ TextClose ∷ [])
+unfolding lex encode_utf8
+five_quotes = refl
+
 multi_line_in_interpolation :
     Reads "\"${''\n${\"}\"}}''}\""
     (TextOpen DoubleQuoted ∷ InterpolationOpen ∷ TextOpen MultiLine ∷ InterpolationOpen ∷ TextOpen DoubleQuoted
     ∷ piece "}" ∷ TextClose ∷ InterpolationClose ∷ piece "}" ∷ TextClose ∷ InterpolationClose ∷ TextClose ∷ [])
 unfolding lex encode_utf8
 multi_line_in_interpolation = refl
+
+ordinary_use :
+    Reads "in  λ(p : T.Person) →\n  let tail = merge { Admin = \"admin\", User = λ(n : Natural) → \"user ${Natural/show n}\" } p.role\n  in  \"${p.name}: ${tail}\""
+    (kinds.Keyword keywords.In ∷ Mark marks.Lambda ∷ Mark marks.ParenOpen ∷ named "p" ∷ Mark marks.Colon
+    ∷ named "T" ∷ Mark marks.Dot ∷ named "Person" ∷ Mark marks.ParenClose ∷ Mark marks.Arrow
+    ∷ kinds.Keyword keywords.Let ∷ named "tail" ∷ Mark marks.Equals ∷ kinds.Keyword keywords.Merge
+    ∷ Mark marks.BraceOpen ∷ named "Admin" ∷ Mark marks.Equals ∷ TextOpen DoubleQuoted ∷ piece "admin"
+    ∷ TextClose ∷ Mark marks.Comma ∷ named "User" ∷ Mark marks.Equals ∷ Mark marks.Lambda
+    ∷ Mark marks.ParenOpen ∷ named "n" ∷ Mark marks.Colon ∷ kinds.Builtin builtins.Natural
+    ∷ Mark marks.ParenClose ∷ Mark marks.Arrow ∷ TextOpen DoubleQuoted ∷ piece "user " ∷ InterpolationOpen
+    ∷ kinds.Builtin builtins.NaturalShow ∷ named "n" ∷ InterpolationClose ∷ TextClose ∷ Mark marks.BraceClose
+    ∷ named "p" ∷ Mark marks.Dot ∷ named "role" ∷ kinds.Keyword keywords.In ∷ TextOpen DoubleQuoted
+    ∷ InterpolationOpen ∷ named "p" ∷ Mark marks.Dot ∷ named "name" ∷ InterpolationClose ∷ piece ": "
+    ∷ InterpolationOpen ∷ named "tail" ∷ InterpolationClose ∷ TextClose ∷ [])
+unfolding lex encode_utf8
+ordinary_use = refl

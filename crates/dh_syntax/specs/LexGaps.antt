@@ -26,11 +26,13 @@ pub data CommentPart : Type 0 where
   Passes : ℕ → CommentPart
   Stops : CommentPart
 
+-- a character as a part of a comment
 abbrev pub comment_character : Character → CommentPart
 comment_character (Reads text n) = Passes n
 comment_character Ends = Stops
 comment_character Faults = Stops
 
+-- the part at the front: the marks come before the characters
 abbrev pub comment_part : List ℕ → CommentPart
 comment_part bs =
     if begins "{-" bs then Opens
@@ -65,6 +67,7 @@ comment inner skip [] = NotClosed
 comment inner (suc skip) (b ∷ bs) = one_further (comment inner skip bs)
 comment inner zero (b ∷ bs) = by_part (comment_part (b ∷ bs)) inner (λ m n. comment m n bs)
 
+-- the form of a comment, by what follows its `{-`
 abbrev pub comment_form : Comment → Option Form
 comment_form (ClosedAfter n) = form White (2 + n)
 comment_form (FaultyAfter n) = form (Faulty (2 + n)) (3 + n)

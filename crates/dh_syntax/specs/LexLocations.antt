@@ -9,9 +9,9 @@ use Rattle.dh_syntax.specs.declared.locations.Loc.{Loc}
 use Rattle.dh_syntax.specs.declared.locations.Loc.TheVariants as locs
 use Rattle.dh_syntax.specs.declared.locations.Url.{Url}
 use Rattle.dh_syntax.specs.declared.tokens.TokenKind.TheVariants as kinds
-use Rattle.dh_syntax.specs.Characters.{first, begins, is_quoted_path_byte, is_host_byte, is_query_byte, is_environment_start, is_environment_byte, is_quoted_environment_byte}
+use Rattle.dh_syntax.specs.Characters.{first, begins, is_quoted_path_byte, is_host_byte, is_segment_byte, is_query_byte, is_environment_start, is_environment_byte, is_quoted_environment_byte}
 use Rattle.dh_syntax.specs.LexForms.{Is, LeftOut, Faulty, Form, form, longest}
-use Rattle.dh_syntax.specs.Locations.{is_path_character, is_kept_in_url}
+use Rattle.dh_syntax.specs.Locations.{is_path_character}
 
 -- a component: the text between two slashes, and how many bytes it takes
 pub record Component : Type 0 where
@@ -23,13 +23,15 @@ pub record Components : Type 0 where
   pub texts : List (List ℕ)
   pub total : ℕ
 
+-- no component
 abbrev pub no_components : Components
 no_components = record { texts = []; total = 0 }
 
--- components with one more byte before them, and with one more component before them
+-- components with one more byte before them
 abbrev pub a_byte_more : Components → Components
 a_byte_more cs = record cs { total = suc cs.total }
 
+-- components with one more component before them, of whose slash this is the byte
 abbrev pub a_component_more : List ℕ → Components → Components
 a_component_more text cs = record { texts = text ∷ cs.texts; total = suc cs.total }
 
@@ -60,6 +62,7 @@ quoted_component bs =
 abbrev pub path_component : List ℕ → Option Component
 path_component bs = if first bs == byte "\"" then quoted_component bs else plain_component bs
 
+-- a path with so many bytes before its components, of which there is at least one
 abbrev pub path_form : (List (List ℕ) → Loc) → ℕ → Components → Option Form
 path_form kind before cs = if nat_lt 0 cs.total then form (Is (kinds.Path (kind cs.texts))) (before + cs.total) else None
 
@@ -85,12 +88,13 @@ label_len bs =
     let run = take (prefix_len is_host_byte bs) bs in
     if is_ascii_alphanumeric (first bs) then length run - suffix_len (λ b. b == byte "-") run else 0
 
--- how many bytes `.` and a part take, any number of times, and possibly one more `.`: by the length of the part that
--- follows a `.`, and by what follows so many bytes after that `.`
+-- how many bytes `.` and what follows it take: by the length of the domainlabel that follows, and by what follows so many
+-- bytes after the `.`
 abbrev pub after_dot : ℕ → (ℕ → ℕ) → ℕ
 after_dot zero rest = 1
 after_dot (suc n) rest = suc (rest (suc n))
 
+-- `.` and a domainlabel, any number of times, and possibly one more `.`: how many bytes, from so many bytes on
 abbrev pub more_labels : ℕ → List ℕ → ℕ
 more_labels skip [] = 0
 more_labels (suc skip) (b ∷ bs) = suc (more_labels skip bs)
@@ -116,6 +120,7 @@ begins_percent bs = first bs == byte "%" && is_ascii_hexdigit (slice_index bs 1)
 abbrev pub url_char_len : (ℕ → Bool) → List ℕ → ℕ
 url_char_len plain bs = if plain (first bs) then 1 else if begins_percent bs then 3 else 0
 
+-- how many bytes such characters take, by the length of the first one and by what follows so many bytes after its first one
 abbrev pub by_url_char : ℕ → (ℕ → ℕ) → ℕ
 by_url_char zero rest = 0
 by_url_char (suc n) rest = suc (rest n)
@@ -129,7 +134,7 @@ url_chars_len plain zero (b ∷ bs) = by_url_char (url_char_len plain (b ∷ bs)
 -- segment
 abbrev pub segment : List ℕ → Option Component
 segment bs =
-    let n = url_chars_len is_kept_in_url 0 bs in
+    let n = url_chars_len is_segment_byte 0 bs in
     Some (record { text = take n bs; len = n })
 
 -- a URL without a path has one empty component
@@ -141,6 +146,7 @@ one_or_more (c ∷ cs) = c ∷ cs
 abbrev pub query_of : List ℕ → Option (List ℕ)
 query_of bs = if first bs == byte "?" then Some (take (url_chars_len is_query_byte 0 (drop 1 bs)) (drop 1 bs)) else None
 
+-- how many bytes `?` and a query take
 abbrev pub query_len : Option (List ℕ) → ℕ
 query_len None = 0
 query_len (Some q) = 1 + length q
@@ -183,6 +189,7 @@ quoted_environment bs =
     else if nat_lt 0 n && slice_index bs (1 + n) == byte "\"" then form (Is (kinds.Environment (take n (drop 1 bs)))) (6 + n)
     else None
 
+-- env, after `env:`
 abbrev pub after_env : List ℕ → Option Form
 after_env bs = if first bs == byte "\"" then quoted_environment bs else plain_environment bs
 
@@ -196,6 +203,7 @@ hex_bytes [] = []
 hex_bytes (a ∷ []) = []
 hex_bytes (a ∷ b ∷ ds) = (digit_value a * 16 + digit_value b) ∷ hex_bytes ds
 
+-- the digest of 64 hexadecimal digits
 abbrev pub digest_of : List ℕ → Digest
 digest_of digits = record { 0 = hex_bytes digits }
 
@@ -203,7 +211,7 @@ digest_of digits = record { 0 = hex_bytes digits }
 abbrev pub digest_digits : List ℕ → ℕ
 digest_digits bs = prefix_len is_ascii_hexdigit (take 64 bs)
 
--- hash: a fault at its start where there are digits, but too few
+-- hash, after `sha256:`: a fault at its start where there are digits, but too few
 abbrev pub after_sha256 : List ℕ → Option Form
 after_sha256 bs =
     let n = digest_digits bs in
@@ -211,5 +219,6 @@ after_sha256 bs =
     else if n == 64 then form (Is (kinds.Digest (digest_of (take 64 bs)))) 71
     else form (Faulty 0) (7 + n)
 
+-- hash
 abbrev pub digest : List ℕ → Option Form
 digest bs = if begins "sha256:" bs then after_sha256 (drop 7 bs) else None

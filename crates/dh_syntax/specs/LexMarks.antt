@@ -12,9 +12,11 @@ pub record Spelled : Type 0 where
   pub bytes : List ℕ
   pub mark : Mark
 
+-- such a mark
 abbrev pub spelled : List ℕ → Mark → Spelled
 spelled bytes mark = record { bytes = bytes; mark = mark }
 
+-- brackets of all kinds
 abbrev pub brackets : List Spelled
 brackets =
     spelled (codes "(") marks.ParenOpen
@@ -27,6 +29,7 @@ brackets =
     ∷ spelled (codes ">") marks.AngleClose
     ∷ []
 
+-- marks that stand between or behind parts
 abbrev pub separators : List Spelled
 separators =
     spelled (codes ",") marks.Comma

@@ -16,6 +16,7 @@ pub record Reserved : Type 0 where
   pub spelling : List ℕ
   pub meaning : Found
 
+-- such a name
 abbrev pub reserved : List ℕ → Found → Reserved
 reserved spelling meaning = record { spelling = spelling; meaning = meaning }
 

@@ -7,10 +7,12 @@ use Rattle.dh_syntax.specs.Characters.{first, begins, is_bit, is_sign}
 use Rattle.dh_syntax.specs.LexForms.{Found, Is, LeftOut, TooWide, Form, form}
 use Rattle.dh_syntax.specs.Numerals.{natural_len, integer_len, read_natural, read_integer}
 
+-- what a natural is, by its number where it is not too wide
 abbrev pub natural_found : Option ℕ → Found
 natural_found None = TooWide
 natural_found (Some n) = Is (kinds.Natural n)
 
+-- what an integer is, by its number where it is not too wide
 abbrev pub integer_found : Option ℤ → Found
 integer_found None = TooWide
 integer_found (Some z) = Is (kinds.Integer z)
@@ -42,6 +44,7 @@ fractional n bs =
 abbrev pub double : List ℕ → Option Form
 double bs = fractional (natural_len bs) bs
 
+-- double-literal with its sign
 abbrev pub signed_double : List ℕ → Option Form
 signed_double bs = fractional (integer_len bs) bs
 
@@ -55,10 +58,11 @@ is_shaped (c ∷ cs) (b ∷ bs) = (if c == byte "0" then is_ascii_digit b else b
 abbrev pub date : List ℕ → Option Form
 date bs = if is_shaped (codes "0000-00-00") bs then form LeftOut 10 else None
 
--- the front of partial-time, and of time-numoffset
+-- the front of partial-time
 abbrev pub time : List ℕ → Option Form
 time bs = if is_shaped (codes "00:00") bs then form LeftOut 5 else None
 
+-- time-numoffset, by its first bytes
 abbrev pub signed_time : List ℕ → Option Form
 signed_time bs = if is_sign (first bs) && is_shaped (codes "00:00") (drop 1 bs) then form LeftOut 6 else None
 

@@ -37,6 +37,7 @@ multi_line_character bs =
     else if first bs == tab then itself bs
     else good_character bs
 
+-- a character of a text by its form
 abbrev pub character_of : TextForm → List ℕ → Character
 character_of DoubleQuoted bs = double_quoted_character bs
 character_of MultiLine bs = multi_line_character bs

@@ -49,6 +49,7 @@ code_form bs = longest (gap_forms bs ++ token_forms bs ++ forms_left_out bs)
 abbrev pub no_form : List ℕ → Form
 no_form bs = record { found = if is_ascii (first bs) || is_noncharacter (code_at bs) then Faulty 0 else LeftOut; len = 1 }
 
+-- a form, or another one where there is none
 abbrev pub form_or : Option Form → Form → Form
 form_or None other = other
 form_or (Some f) other = f
@@ -88,12 +89,14 @@ pub data Before : Type 0 where
   NameAt : Before
   Other : Before
 
+-- what stands before the place after a token
 abbrev pub before_after : TokenKind → Before → Before
 before_after (kinds.Name x) before = AName
 before_after (kinds.Quoted x) before = AName
 before_after (kinds.Mark marks.At) AName = NameAt
 before_after kind before = Other
 
+-- what stands before the place after white space
 abbrev pub before_after_white : Before → Before
 before_after_white Start = Other
 before_after_white before = before
@@ -110,6 +113,7 @@ pub record State : Type 0 where
   -- whether white space stands directly before, or nothing but skipped lines
   pub gap : Bool
 
+-- the start of a text
 abbrev pub start : State
 start = record { place = Outside; before = Start; gap = true }
 
@@ -147,6 +151,7 @@ step s at TooWide len = Stops (Wide at)
 step s at (Faulty further) len = Stops (Bad (at + further))
 step s at Unclosed len = Stops (Bad (opened at s.place))
 
+-- what a form does at an offset
 abbrev pub step_at : State → ℕ → Form → Step
 step_at s at f = step s at f.found f.len
 
@@ -155,6 +160,7 @@ abbrev pub end_at : State → ℕ → Place → Result (List Token) LexFault
 end_at s at Outside = Ok (record { kind = kinds.End; from = at; to = at; gap = s.gap } ∷ [])
 end_at s at place = Err (Bad (opened at place))
 
+-- a token before those that follow, where these have no fault
 abbrev pub with_token : Token → Result (List Token) LexFault → Result (List Token) LexFault
 with_token t (Ok ts) = Ok (t ∷ ts)
 with_token t (Err fault) = Err fault

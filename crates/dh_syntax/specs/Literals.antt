@@ -85,10 +85,11 @@ common (x ∷ y ∷ xs) = take (common_prefix_len nat_eq x (common (y ∷ xs))) 
 abbrev pub indented_by : List (List ℕ) → ℕ
 indented_by pieces = length (common (map indentation (counted_lines pieces)))
 
--- lines without their first bytes, and the same but for the first line
+-- lines without so many of their first bytes
 abbrev pub cut : ℕ → List (List ℕ) → List (List ℕ)
 cut n lines = map (drop n) lines
 
+-- the same, but for the first line, which begins before the piece
 abbrev pub cut_later : ℕ → List (List ℕ) → List (List ℕ)
 cut_later n [] = []
 cut_later n (l ∷ ls) = l ∷ cut n ls

@@ -19,10 +19,11 @@ natural_len bs =
 abbrev pub integer_len : List ℕ → ℕ
 integer_len bs = if is_sign (first bs) && nat_lt 0 (natural_len (drop 1 bs)) then suc (natural_len (drop 1 bs)) else 0
 
--- the whole text is one natural, one integer
+-- the whole text is one natural
 abbrev pub is_natural : List ℕ → Bool
 is_natural bs = nat_lt 0 (length bs) && natural_len bs == length bs
 
+-- the whole text is one integer
 abbrev pub is_integer : List ℕ → Bool
 is_integer bs = nat_lt 0 (length bs) && integer_len bs == length bs
 
