@@ -25,19 +25,19 @@ pub enum TokenKind {
     Builtin(Builtin),
     Natural(u128),
     Integer(i128),
-    /// The opening of a text literal.
+    /// The opening of a text literal: `"`, or `''` with its line end.
     TextOpen(TextForm),
-    /// The characters between two interpolations, as they are written between double quotes, or with the escapes
-    /// read and line ends as line feeds in a multi-line text.
+    /// The characters up to the next interpolation or the closing, with their escapes read and each line end as a
+    /// line feed; a multi-line text still has its indentation. Where no character stands there is no such token.
     TextPiece(Piece),
     /// `${`
     InterpolationOpen,
     /// The `}` that ends an interpolation.
     InterpolationClose,
     TextClose,
-    /// A path: `Abs`, `Here`, `Parent` or `Home`.
+    /// A path as it is written, not made canonical: `Abs`, `Here`, `Parent` or `Home`.
     Path(Loc),
-    /// A URL: `Http` or `Https`.
+    /// A URL as it is written: `Http` or `Https`.
     Url(Loc),
     /// The name of an environment variable.
     Environment(Piece),
