@@ -12,6 +12,12 @@ pub mod Derivation
 pub mod Derived
 pub mod ExampleTerms
 pub mod FaultLines
+pub mod GrammarExamples
+pub mod GrammarExamplesAtoms
+pub mod GrammarExamplesOffsets
+pub mod GrammarExamplesOperators
+pub mod GrammarExamplesRecords
+pub mod GrammarExamplesRefusals
 pub mod Levels
 pub mod LexExamples
 pub mod LexExamplesFaults
