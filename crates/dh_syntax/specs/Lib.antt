@@ -16,6 +16,7 @@ pub mod GrammarExamples
 pub mod GrammarExamplesAtoms
 pub mod GrammarExamplesOffsets
 pub mod GrammarExamplesOperators
+pub mod GrammarExamplesOrdinary
 pub mod GrammarExamplesRecords
 pub mod GrammarExamplesRefusals
 pub mod Levels
