@@ -63,7 +63,7 @@ core-renamed x ys e = at (bytes_eq x blank) refl
 
 -- The α-normal form has the same nameless form without names.
 
-abbrev bare_below : List Name → Term → Bare
+abbrev pub bare_below : List Name → Term → Bare
 bare_below ys e = forget (core_below ys e)
 
 abbrev bare_row_below : List Name → Row Var Name → Row Ref (Unit {0})
@@ -81,7 +81,7 @@ bare-alpha_row f h ys (kid (Some x) e r) =
     let q = bare-alpha_row f h ys r in
     cc
 
-bare-alpha_to : (n : ℕ) (ys : List Name) (e : Term) → bare_below ys (alpha_to n e) ≡ bare_below ys e
+pub bare-alpha_to : (n : ℕ) (ys : List Name) (e : Term) → bare_below ys (alpha_to n e) ≡ bare_below ys e
 bare-alpha_to zero ys e = refl
 bare-alpha_to (suc n) ys (Leaf v) = refl
 bare-alpha_to (suc n) ys (Node op r) = ap (Node op) (bare-alpha_row (alpha_to n) (bare-alpha_to n) ys r)

@@ -2,6 +2,7 @@ pub mod AlphaForms
 pub mod AlphaMoves
 pub mod Contractions
 pub mod Cores
+pub mod FreeIndices
 pub mod FreeShifts
 pub mod Occurrences
 pub mod Renamings

@@ -2,6 +2,7 @@
 #![tactic(auto)]
 
 mod alpha;
+mod indices;
 mod nameless;
 mod shifting;
 mod substituting;
@@ -9,6 +10,10 @@ mod substituting;
 pub use alpha::{
     alpha_equations, alpha_nesting, alpha_of_shift_down, alpha_of_shift_up, alpha_of_subst,
     alpha_once, free_after_alpha, same_decides, same_is_an_equivalence,
+};
+pub use indices::{
+    indices_and_binders, indices_below_more, indices_of_alpha, indices_of_put, indices_of_shift_up,
+    indices_of_subst, indices_put_under,
 };
 pub use nameless::{
     alpha_reads_bare, core_of_put, core_of_shift_up, core_of_subst, forget_of_sub, reading_back,

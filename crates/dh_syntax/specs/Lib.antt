@@ -19,6 +19,7 @@ pub mod GrammarExamplesOperators
 pub mod GrammarExamplesOrdinary
 pub mod GrammarExamplesRecords
 pub mod GrammarExamplesRefusals
+pub mod Indices
 pub mod Levels
 pub mod LexExamples
 pub mod LexExamplesFaults

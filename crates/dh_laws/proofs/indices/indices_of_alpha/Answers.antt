@@ -1,0 +1,5 @@
+use Rattle.dh_laws.proofs.FreeIndices.{free-alpha}
+use Rattle.dh_laws.proofs.indices.indices_of_alpha.Goals as goal
+
+pub returns : goal.returns
+returns c = free-alpha
