@@ -4,7 +4,7 @@ use Rattle.dh_syntax.specs.declared.expressions.Alt.{Alt}
 use Rattle.dh_syntax.specs.declared.expressions.Op.TheVariants as ops
 use Rattle.dh_syntax.specs.declared.operators.BinOp.{BinOp}
 use Rattle.dh_syntax.specs.declared.operators.Builtin.{Builtin}
-use Rattle.dh_syntax.specs.declared.operators.Builtin.TheVariants as names
+use Rattle.dh_syntax.specs.declared.operators.Builtin.TheVariants as builtins
 use Rattle.dh_syntax.specs.Tree.{Tree, Row, Node, end, kid, Name}
 
 -- fields of a record with their values, or of a record type with their types
@@ -82,7 +82,7 @@ module _ {A B : Type 0} where
 
   -- `List t`
   abbrev pub list_type : Tree A B → Tree A B
-  list_type t = call names.List (t ∷ [])
+  list_type t = call builtins.List (t ∷ [])
 
   -- `[] : t`
   abbrev pub empty_list : Tree A B → Tree A B
@@ -102,7 +102,7 @@ module _ {A B : Type 0} where
 
   -- `None t`
   abbrev pub none : Tree A B → Tree A B
-  none t = call names.None (t ∷ [])
+  none t = call builtins.None (t ∷ [])
 
   -- `merge t u`
   abbrev pub merge : Tree A B → Tree A B → Tree A B

@@ -2,9 +2,9 @@
 use Rattle.std.specs.Prelude.{ℕ, ℤ, Bool, true, false, not, ◌==◌, List, [], ◌∷◌, Option, Some, None, option_map}
 use Rattle.dh_syntax.specs.declared.expressions.Alt.{Alt}
 use Rattle.dh_syntax.specs.declared.expressions.Op.TheVariants as ops
-use Rattle.dh_syntax.specs.declared.operators.BinOp.TheVariants as bin
+use Rattle.dh_syntax.specs.declared.operators.BinOp.TheVariants as bins
 use Rattle.dh_syntax.specs.declared.operators.Builtin.{Builtin}
-use Rattle.dh_syntax.specs.declared.operators.Builtin.TheVariants as names
+use Rattle.dh_syntax.specs.declared.operators.Builtin.TheVariants as builtins
 use Rattle.dh_syntax.specs.Forms.{Fields}
 use Rattle.dh_syntax.specs.Tree.{Tree, Row, Node, end, kid, Name}
 
@@ -83,7 +83,7 @@ module _ {A B : Type 0} where
 
   -- the built-in `None`
   abbrev pub is_none : Tree A B → Bool
-  is_none (Node (ops.Builtin names.None) r) = true
+  is_none (Node (ops.Builtin builtins.None) r) = true
   is_none _ = false
 
   abbrev pub as_some : Tree A B → Option (Tree A B)
@@ -126,12 +126,12 @@ module _ {A B : Type 0} where
 
   -- `l ⫽ r`
   abbrev pub as_prefer : Tree A B → Option (Tree A B × Tree A B)
-  as_prefer (Node (ops.Bin bin.Prefer) r) = first_two r
+  as_prefer (Node (ops.Bin bins.Prefer) r) = first_two r
   as_prefer _ = None
 
   -- `l ∧ r`
   abbrev pub as_combine : Tree A B → Option (Tree A B × Tree A B)
-  as_combine (Node (ops.Bin bin.Combine) r) = first_two r
+  as_combine (Node (ops.Bin bins.Combine) r) = first_two r
   as_combine _ = None
 
   -- ---- functions

@@ -1,0 +1,82 @@
+-- Which parts a row looks at, and in which order.
+use Rattle.std.specs.Prelude.{◌≡◌, refl, [], ◌∷◌}
+use Rattle.dh_syntax.specs.declared.operators.BinOp.TheVariants as bins
+use Rattle.dh_syntax.specs.declared.operators.Builtin.TheVariants as builtins
+use Rattle.dh_syntax.specs.ExampleTerms.{x}
+use Rattle.dh_syntax.specs.Forms.{natural, text, operator, if_else, app, call, lambda, let_in, list, merge, field, projection, projection_by_type, update, to_map}
+use Rattle.dh_syntax.specs.Needs.{needs, at, set, part, argument}
+use Rattle.dh_syntax.specs.RowTerms.{a, p, q, r, natural_type}
+
+-- `if p then q else r`
+if_needs : needs (if_else p q r) ≡ part 0 ∷ part 1 ∷ part 2 ∷ []
+if_needs = refl
+
+-- `p + q`, and `p ++ q`, which looks at nothing
+sum_needs : needs (operator bins.Plus p q) ≡ part 0 ∷ part 1 ∷ []
+sum_needs = refl
+
+append_needs : needs (operator bins.TextAppend p q) ≡ []
+append_needs = refl
+
+-- `"${p}${q}"`
+text_needs : needs (text ([] ∷ [] ∷ [] ∷ []) (p ∷ q ∷ [])) ≡ part 0 ∷ part 1 ∷ []
+text_needs = refl
+
+-- `merge p q` looks at q first, `toMap p` at p
+merge_needs : needs (merge p q) ≡ part 1 ∷ part 0 ∷ []
+merge_needs = refl
+
+map_needs : needs (to_map p) ≡ part 0 ∷ []
+map_needs = refl
+
+-- `p.a`, `p.{ a }`, `p.{}`, `p.(q)`, `p with a = q`
+field_needs : needs (field p a) ≡ part 0 ∷ []
+field_needs = refl
+
+projection_needs : needs (projection p (a ∷ [])) ≡ part 0 ∷ []
+projection_needs = refl
+
+empty_projection_needs : needs (projection p []) ≡ []
+empty_projection_needs = refl
+
+projection_by_type_needs : needs (projection_by_type p q) ≡ part 1 ∷ []
+projection_by_type_needs = refl
+
+with_needs : needs (update p (a ∷ []) q) ≡ part 0 ∷ []
+with_needs = refl
+
+-- `p q`, and built-ins with all their arguments or with fewer
+app_needs : needs (app p q) ≡ part 0 ∷ []
+app_needs = refl
+
+fold_needs : needs (call builtins.NaturalFold (natural 2 ∷ p ∷ q ∷ r ∷ [])) ≡ part 0 ∷ argument 3 ∷ []
+fold_needs = refl
+
+fold_short_needs : needs (call builtins.NaturalFold (natural 2 ∷ p ∷ q ∷ [])) ≡ part 0 ∷ []
+fold_short_needs = refl
+
+replace_needs : needs (call builtins.TextReplace (p ∷ q ∷ r ∷ [])) ≡ part 0 ∷ argument 2 ∷ argument 0 ∷ []
+replace_needs = refl
+
+-- a variable, `λ(x : Natural) → p`, `let x = p in q`, `[ p ]`
+variable_needs : needs p ≡ []
+variable_needs = refl
+
+lambda_needs : needs (lambda x natural_type p) ≡ []
+lambda_needs = refl
+
+let_needs : needs (let_in x p q) ≡ []
+let_needs = refl
+
+list_needs : needs (list (p ∷ [])) ≡ []
+list_needs = refl
+
+-- the arguments of `Text/replace p q r` at their places
+first_argument : at (argument 2) (call builtins.TextReplace (p ∷ q ∷ r ∷ [])) ≡ p
+first_argument = refl
+
+last_argument : at (argument 0) (call builtins.TextReplace (p ∷ q ∷ r ∷ [])) ≡ r
+last_argument = refl
+
+other_argument : set (argument 2) (natural 1) (call builtins.TextReplace (p ∷ q ∷ r ∷ [])) ≡ call builtins.TextReplace (natural 1 ∷ q ∷ r ∷ [])
+other_argument = refl
