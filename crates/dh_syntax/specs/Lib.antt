@@ -65,6 +65,8 @@ pub mod Moves
 pub mod Named
 pub mod Nameless
 pub mod NamelessExamples
+pub mod NamelessRunExamples
+pub mod NamelessRuns
 pub mod Needs
 pub mod NeedsExamples
 pub mod Nesting

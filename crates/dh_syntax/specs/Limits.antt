@@ -1,14 +1,5 @@
--- The limits of this profile on numbers, texts, lists and runs.
-use Rattle.std.specs.Prelude.{ℕ, ◌^◌, Bool, nat_lt, ℤ, pos, negsuc}
-
--- whether a Natural is at most 2^128 - 1
-abbrev pub natural_fits : ℕ → Bool
-natural_fits n = nat_lt n (2 ^ 128)
-
--- whether an Integer is at least -2^127 and at most 2^127 - 1
-abbrev pub integer_fits : ℤ → Bool
-integer_fits (pos n) = nat_lt n (2 ^ 127)
-integer_fits (negsuc n) = nat_lt n (2 ^ 127)
+-- The limits of this profile on texts, lists and runs. Those on numbers stand with the numerals.
+use Rattle.std.specs.Prelude.{ℕ}
 
 -- the literal bytes of a text that a rule makes, at most
 abbrev pub most_text_bytes : ℕ

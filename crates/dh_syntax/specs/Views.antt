@@ -50,9 +50,9 @@ module _ {A B : Type 0} where
   as_natural _ = None
 
   -- whether an expression is the literal n
-  abbrev pub is_natural : ℕ → Tree A B → Bool
-  is_natural n (Node (ops.Nat m) r) = m == n
-  is_natural n _ = false
+  abbrev pub is_literal : ℕ → Tree A B → Bool
+  is_literal n (Node (ops.Nat m) r) = m == n
+  is_literal n _ = false
 
   abbrev pub as_integer : Tree A B → Option ℤ
   as_integer (Node (ops.Int z) r) = Some z
