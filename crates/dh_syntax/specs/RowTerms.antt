@@ -34,11 +34,11 @@ r = var (codes "r") 0
 
 -- ---- literals
 
-abbrev pub yes' : Term
-yes' = bool true
+abbrev pub true_literal : Term
+true_literal = bool true
 
-abbrev pub no' : Term
-no' = bool false
+abbrev pub false_literal : Term
+false_literal = bool false
 
 -- `Natural`
 abbrev pub natural_type : Term
