@@ -11,6 +11,10 @@ use Rattle.dh_syntax.specs.Tree.{Tree, Row, Node, end, kid, Name}
 abbrev pub Fields : Type 0 → Type 0 → Type 0
 Fields A B = List (Name × Tree A B)
 
+-- the pieces of a text, and the interpolations between them
+abbrev pub TextParts : Type 0 → Type 0 → Type 0
+TextParts A B = List (List ℕ) × List (Tree A B)
+
 module _ {A B : Type 0} where
   -- parts that stand under no binder
   abbrev pub plain_row : List (Tree A B) → Row A B

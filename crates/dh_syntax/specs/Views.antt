@@ -5,7 +5,7 @@ use Rattle.dh_syntax.specs.declared.expressions.Op.TheVariants as ops
 use Rattle.dh_syntax.specs.declared.operators.BinOp.TheVariants as bins
 use Rattle.dh_syntax.specs.declared.operators.Builtin.{Builtin}
 use Rattle.dh_syntax.specs.declared.operators.Builtin.TheVariants as builtins
-use Rattle.dh_syntax.specs.Forms.{Fields}
+use Rattle.dh_syntax.specs.Forms.{Fields, TextParts}
 use Rattle.dh_syntax.specs.Tree.{Tree, Row, Node, end, kid, Name}
 
 module _ {A B : Type 0} where
@@ -59,7 +59,7 @@ module _ {A B : Type 0} where
   as_integer _ = None
 
   -- a text: its pieces and its interpolations
-  abbrev pub as_text : Tree A B → Option (List (List ℕ) × List (Tree A B))
+  abbrev pub as_text : Tree A B → Option (TextParts A B)
   as_text (Node (ops.Text ps) r) = option_map (λ es. (ps, es)) (bodies r)
   as_text _ = None
 
