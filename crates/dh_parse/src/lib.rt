@@ -1,2 +1,4 @@
 //! Text to expressions.
 #![tactic(auto)]
+
+pub mod laws;

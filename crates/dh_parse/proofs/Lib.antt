@@ -1,0 +1,9 @@
+pub mod Completeness
+pub mod Forgetting
+pub mod Lexing
+pub mod Limits
+pub mod Reading
+pub mod Running
+pub mod Smallness
+pub mod Soundness
+pub mod Yields
