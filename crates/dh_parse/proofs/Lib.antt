@@ -1,7 +1,10 @@
 pub mod Completeness
+pub mod Digits
 pub mod Forgetting
+pub mod Inside
 pub mod Lexing
 pub mod Limits
+pub mod Names
 pub mod Reading
 pub mod Running
 pub mod Smallness

@@ -1,3 +1,4 @@
+pub mod Fronts
 pub mod SmallGrammar
 pub mod SmallLaws
 pub mod SmallLimits

@@ -1,4 +1,5 @@
 //! Text to expressions.
 #![tactic(auto)]
 
+mod fronts;
 pub mod laws;
