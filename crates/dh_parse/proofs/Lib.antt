@@ -5,8 +5,10 @@ pub mod Inside
 pub mod Lexing
 pub mod Limits
 pub mod Names
+pub mod Nodes
 pub mod Reading
 pub mod Running
 pub mod Smallness
 pub mod Soundness
+pub mod Stacking
 pub mod Yields

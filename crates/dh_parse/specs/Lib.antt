@@ -1,4 +1,6 @@
 pub mod Fronts
+pub mod Operands
+pub mod Pendings
 pub mod SmallGrammar
 pub mod SmallLaws
 pub mod SmallLimits
@@ -6,3 +8,4 @@ pub mod SmallMachine
 pub mod SmallSpelling
 pub mod SmallTerms
 pub mod SmallTokens
+pub mod Stacks

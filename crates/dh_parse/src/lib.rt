@@ -3,3 +3,5 @@
 
 mod fronts;
 pub mod laws;
+mod operands;
+mod stacks;
