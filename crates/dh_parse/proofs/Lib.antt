@@ -11,4 +11,6 @@ pub mod Running
 pub mod Smallness
 pub mod Soundness
 pub mod Stacking
+pub mod Steps
+pub mod Within
 pub mod Yields

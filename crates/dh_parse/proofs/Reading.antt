@@ -15,9 +15,9 @@ use Rattle.dh_parse.proofs.Running.{by_test, alone_is, after_stopped}
 use Rattle.dh_parse.proofs.Yields.{read_derives}
 
 -- what the test of the limits tells
-record IsWithin (s : TermState) : Type 0 where
-  shallow : deepest s ≤ 500
-  few_open : open_brackets s ≤ 499
+pub record IsWithin (s : TermState) : Type 0 where
+  pub shallow : deepest s ≤ 500
+  pub few_open : open_brackets s ≤ 499
 
 both_true : (a b : Bool) → a && b ≡ true → (a ≡ true) × (b ≡ true)
 both_true true true h = (refl, refl)
@@ -29,7 +29,7 @@ test_tells s h =
     let both = both_true (nat_le (deepest s) 500) (nat_le (open_brackets s) 499) h in
     record { shallow = leb-true (deepest s) 500 both.0; few_open = leb-true (open_brackets s) 499 both.1 }
 
-tells_within : (s : TermState) → IsWithin s → limited s ≡ s
+pub tells_within : (s : TermState) → IsWithin s → limited s ≡ s
 tells_within s h = rw (le-leb (deepest s) 500 h.shallow, le-leb (open_brackets s) 499 h.few_open)
 
 limited_stopped : limited stopped ≡ stopped
@@ -38,7 +38,7 @@ limited_stopped = refl
 next_stopped : (t : Sign) → next stopped t ≡ stopped
 next_stopped t = ap limited (after_stopped terms t.symbol t.gap)
 
-run_within_stopped : (ts : List Sign) → run_within stopped ts ≡ stopped
+pub run_within_stopped : (ts : List Sign) → run_within stopped ts ≡ stopped
 run_within_stopped [] = refl
 run_within_stopped (t ∷ ts) = ap (λ s. run_within s ts) (next_stopped t) ∙ run_within_stopped ts
 
@@ -153,3 +153,6 @@ spells_read text e s =
     let few : opens s.derivation ≤ 499 = let f = s.few_open in omega arith in
     let shallow : nesting (meaning s.derivation) ≤ 500 = subst (λ x. nesting x ≤ 500) (sym s.means) s.shallow in
     ap (outcome (expecting [])) s.tokens ∙ tree_reads (expecting []) (yield s.derivation) s.derivation (reads_derived s.derivation s.derived) few shallow ∙ ap Some s.means
+
+pub refuses : (text : List ℕ) → outcome (expecting []) (tokens_of text) ≡ None → (e : Term) → Spells text e → ⊥
+refuses text o e s = let read = spells_read text e s in cc

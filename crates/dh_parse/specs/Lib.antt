@@ -9,3 +9,4 @@ pub mod SmallSpelling
 pub mod SmallTerms
 pub mod SmallTokens
 pub mod Stacks
+pub mod States
