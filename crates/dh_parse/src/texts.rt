@@ -96,3 +96,6 @@ pub fn parse(alloc: Global, bytes: &[u8]) -> Result<Expr, ParseFault>
         Err(fault) => Err(fault),
     }
 }
+
+#[cfg(test)]
+mod tests;
