@@ -1,0 +1,16 @@
+pub mod Completeness
+pub mod Digits
+pub mod Forgetting
+pub mod Inside
+pub mod Lexing
+pub mod Limits
+pub mod Names
+pub mod Nodes
+pub mod Reading
+pub mod Running
+pub mod Smallness
+pub mod Soundness
+pub mod Stacking
+pub mod Steps
+pub mod Within
+pub mod Yields

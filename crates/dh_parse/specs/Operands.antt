@@ -1,0 +1,7 @@
+-- The expression of an operand.
+use Rattle.dh_syntax.specs.Bridge.{term}
+use Rattle.dh_syntax.specs.Tree.{Term}
+use Rattle.dh_parse.specs.declared.operands.Operand.{Operand}
+
+abbrev pub term_of : Operand → Term
+term_of x = term x.expression
