@@ -173,3 +173,6 @@ fn are_well_formed(kids: &Kids) -> bool
     }
     true
 }
+
+#[cfg(test)]
+mod tests;
