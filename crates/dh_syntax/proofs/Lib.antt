@@ -1,8 +1,13 @@
 pub mod AlphaEquations
+pub mod Arity
 pub mod Bridge
 pub mod LexingLaws
 pub mod LocationLaws
 pub mod Moves
+pub mod NativeTests
+pub mod Nesting
 pub mod Numbers
+pub mod Order
 pub mod Rows
 pub mod SameTree
+pub mod WellFormed

@@ -42,11 +42,31 @@ pub row_of-drop_item : (ks : List Kid) (i : ℕ) (k : Kid) → i < length ks →
 row_of-drop_item ks i k h e =
     ap row_of (drop_more ks i k h) ∙ row_of-cons (get_or ks i k) (drop (i + 1) ks) ∙ ap (λ j. kid j.binder (term j.body) (row_of (drop (i + 1) ks))) (sym e)
 
+pub at_row_of-drop_item : {Y : Type 0} (F : Row Var Name → Y) (ks : List Kid) (i : ℕ) (k : Kid) → i < length ks → k ≡ get_or ks i k →
+    F (row_of (drop i ks)) ≡ F (kid k.binder (term k.body) (row_of (drop (i + 1) ks)))
+at_row_of-drop_item F ks i k h e = ap F (row_of-drop_item ks i k h e)
+
 pub row_of-drop : (ks : List Kid) (i : ℕ) (k : Kid) → slice_get ks i ≡ Some k → row_of (drop i ks) ≡ kid k.binder (term k.body) (row_of (drop (i + 1) ks))
 row_of-drop ks i k h = row_of-drop_item ks i k (slice_get_within ks i k h) (sym (get_or_from_slice_get ks i k k h))
 
 pub row_of-drop_all : (ks : List Kid) (i : ℕ) → length ks ≤ i → row_of (drop i ks) ≡ end
 row_of-drop_all ks i h = ap row_of (drop_all i ks h) ∙ row_of-nil
+
+pub at_row_of-drop_all : {Y : Type 0} (F : Row Var Name → Y) (ks : List Kid) (i : ℕ) → length ks ≤ i → F (row_of (drop i ks)) ≡ F end
+at_row_of-drop_all F ks i h = ap F (row_of-drop_all ks i h)
+
+-- One, two and three kids.
+pub row_of-one : (k : Kid) → row_of (k ∷ []) ≡ kid k.binder (term k.body) end
+unfolding row_of
+row_of-one k = refl
+
+pub row_of-two : (k j : Kid) → row_of (k ∷ j ∷ []) ≡ kid k.binder (term k.body) (kid j.binder (term j.body) end)
+unfolding row_of
+row_of-two k j = refl
+
+pub row_of-three : (k j l : Kid) → row_of (k ∷ j ∷ l ∷ []) ≡ kid k.binder (term k.body) (kid j.binder (term j.body) (kid l.binder (term l.body) end))
+unfolding row_of
+row_of-three k j l = refl
 
 -- A loop that makes a kid from each kid, where `F` is what becomes of a row: what is made so far and what will become
 -- of the rest stay the same together. `G` is what becomes of the rest after this kid, often `F` itself.

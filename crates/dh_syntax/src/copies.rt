@@ -83,3 +83,6 @@ pub fn copy(alloc: Global, e: &Expr) -> Result<Expr, AllocError>
         }
     }
 }
+
+#[cfg(test)]
+mod tests;

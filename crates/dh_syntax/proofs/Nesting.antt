@@ -1,0 +1,35 @@
+-- How deep the expressions of the program nest.
+use Rattle.std.specs.Prelude.{◌≡◌, ℕ, suc, ◌+◌, min, max, ◌<◌, ◌≤◌, List, length, drop}
+use Rattle.std.proofs.Common.{◌∙◌, ap, sym, arith, get_or}
+use Rattle.dh_syntax.specs.declared.expressions.Expr.TheVariants as expr
+use Rattle.dh_syntax.specs.declared.expressions.Kid.{Kid}
+use Rattle.dh_syntax.specs.declared.expressions.Op.{Op}
+use Rattle.dh_syntax.specs.Tree.{Name}
+use Rattle.dh_syntax.specs.Nesting.{nesting, parts_nesting}
+use Rattle.dh_syntax.specs.Bridge.{term, row_of}
+use Rattle.dh_syntax.proofs.Bridge.{term-Var, term-Node}
+use Rattle.dh_syntax.proofs.Rows.{row_of-drop_item, row_of-drop_all}
+
+pub nesting-Var : (x : Name) (n : ℕ) → nesting (term (expr.Var x n)) ≡ 0
+nesting-Var x n = ap nesting (term-Var x n)
+
+pub nesting-Node : (op : Op) (ks : List Kid) → nesting (term (expr.Node op ks)) ≡ parts_nesting (row_of ks)
+nesting-Node op ks = ap nesting (term-Node op ks)
+
+-- The greatest so far and the rest, up to a limit.
+stops : (most n p limit sub step next : ℕ) → sub ≡ min n limit → step ≡ min (sub + 1) limit → next ≡ max most step →
+    min (max next p) limit ≡ min (max most (max (suc n) p)) limit
+stops most n p limit sub step next a b c = omega arith
+
+pub nesting_keeps : (ks : List Kid) (i most limit sub step next whole : ℕ) (k : Kid) → i < length ks → k ≡ get_or ks i k →
+    sub ≡ min (nesting (term k.body)) limit → step ≡ min (sub + 1) limit → next ≡ max most step →
+    min (max most (parts_nesting (row_of (drop i ks)))) limit ≡ whole → min (max next (parts_nesting (row_of (drop (i + 1) ks)))) limit ≡ whole
+nesting_keeps ks i most limit sub step next whole k h e a b c so_far =
+    stops most (nesting (term k.body)) (parts_nesting (row_of (drop (i + 1) ks))) limit sub step next a b c
+    ∙ ap (λ r. min (max most (parts_nesting r)) limit) (sym (row_of-drop_item ks i k h e)) ∙ so_far
+
+pub nesting_ends : (ks : List Kid) (i most limit whole : ℕ) → length ks ≤ i → most ≤ limit →
+    min (max most (parts_nesting (row_of (drop i ks)))) limit ≡ whole → most ≡ whole
+nesting_ends ks i most limit whole h fits so_far =
+    let e : most ≡ min (max most 0) limit = omega arith in
+    e ∙ ap (λ r. min (max most (parts_nesting r)) limit) (sym (row_of-drop_all ks i h)) ∙ so_far

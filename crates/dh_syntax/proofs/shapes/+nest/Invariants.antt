@@ -1,0 +1,11 @@
+use Rattle.std.proofs.Common.{◌≡◌, ◌≤◌, min, max, drop}
+use Rattle.dh_syntax.specs.Bridge.{row_of}
+use Rattle.dh_syntax.specs.Nesting.{parts_nesting}
+use Rattle.dh_syntax.proofs.shapes.+nest.Given as goal
+
+abbrev pub invariant-nest_of_kids-loop-kid : goal.invariant-nest_of_kids-loop-kid
+invariant-nest_of_kids-loop-kid l =
+    record {
+      fits : l.most ≤ 4294967295;
+      whole : min (max l.most (parts_nesting (row_of (drop l.kid-index l.kid-items)))) 4294967295 ≡ min (parts_nesting (row_of l.kid-items)) 4294967295;
+    }
