@@ -9,6 +9,7 @@ pub mod Bridge
 pub mod BuiltinLists
 pub mod BuiltinNumbers
 pub mod BuiltinTexts
+pub mod Builtins
 pub mod Cbor
 pub mod Characters
 pub mod Contract
@@ -28,6 +29,7 @@ pub mod ContractUnions
 pub mod Contraction
 pub mod Derivation
 pub mod Derived
+pub mod ExampleNodes
 pub mod ExampleTerms
 pub mod FaultLines
 pub mod Forms
@@ -77,6 +79,9 @@ pub mod Numerals
 pub mod Offsets
 pub mod Operators
 pub mod Order
+pub mod Printed
+pub mod PrintedExamples
+pub mod PrintedOperatorExamples
 pub mod RowTerms
 pub mod Rows
 pub mod SameTree
