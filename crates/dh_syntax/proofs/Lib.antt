@@ -1,5 +1,9 @@
 pub mod AlphaEquations
 pub mod Arity
+pub mod BinaryDepthExamples
+pub mod BinaryFaultExamples
+pub mod BinaryHeadsOf
+pub mod BinaryReadLaws
 pub mod Bridge
 pub mod LexingLaws
 pub mod LocationLaws

@@ -5,6 +5,12 @@ pub mod AnswerExamples
 pub mod Arity
 pub mod Binary
 pub mod BinaryExamples
+pub mod BinaryFaults
+pub mod BinaryHeads
+pub mod BinaryItems
+pub mod BinaryLeaves
+pub mod BinaryRead
+pub mod BinaryReadExamples
 pub mod Bridge
 pub mod BuiltinLists
 pub mod BuiltinNumbers
@@ -29,6 +35,7 @@ pub mod ContractUnions
 pub mod Contraction
 pub mod Derivation
 pub mod Derived
+pub mod ExampleBytes
 pub mod ExampleNodes
 pub mod ExampleTerms
 pub mod FaultLines

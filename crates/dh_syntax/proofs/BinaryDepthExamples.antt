@@ -1,0 +1,39 @@
+-- Worked examples of bytes that nest too deep.
+use Rattle.std.specs.Prelude.{ℕ, zero, suc, List, [], ◌∷◌, take, drop, Err, refl}
+use Rattle.std.proofs.Common.{inl, inr, lit<}
+use Rattle.dh_syntax.specs.declared.faults.DecodeFault.TheVariants as fault
+use Rattle.dh_syntax.specs.BinaryFaults.{DecodesTo}
+use Rattle.dh_syntax.specs.BinaryHeads as head
+use Rattle.dh_syntax.specs.BinaryItems.{Item, item_marks}
+use Rattle.dh_syntax.specs.ExampleBytes.{u, array}
+use Rattle.dh_syntax.specs.ExampleNodes.{underscore, variable, assert_that}
+use Rattle.dh_syntax.specs.Tree.{Term}
+
+-- `assert : _`, so many times
+abbrev deep_item : ℕ → Item
+deep_item zero = u 0
+deep_item (suc n) = array (u 19 ∷ deep_item n ∷ [])
+
+abbrev deep : ℕ → Term
+deep zero = variable underscore 0
+deep (suc n) = assert_that (deep n)
+
+abbrev deep_bytes : ℕ → List ℕ
+deep_bytes zero = 0 ∷ []
+deep_bytes (suc n) = 0x82 ∷ 0x13 ∷ deep_bytes n
+
+nests_deep : DecodesTo (deep_bytes 501) (Err fault.TooNested)
+nests_deep = inr (record { e = deep 501; whole = record { item = deep_item 501; begins = refl; is_expression = refl; within = refl }; deep = lit< tt })
+
+-- the 1,101st array opens while the others stand open
+opens_many : DecodesTo (deep_bytes 1101) (Err fault.TooNested)
+opens_many = inl (record {
+  ms = take 2200 (item_marks (deep_item 1101));
+  after = deep_bytes 1;
+  mark = head.array 2;
+  rest = 0x13 ∷ 0 ∷ [];
+  reached = record { begins = refl; sound = (drop 2200 (item_marks (deep_item 1101)), deep_item 1101, deep 1101, refl, refl); unfinished = refl; within = refl };
+  next = refl;
+  sound = (drop 2201 (item_marks (deep_item 1101)), deep_item 1101, deep 1101, refl, refl);
+  too_many = lit< tt;
+})
