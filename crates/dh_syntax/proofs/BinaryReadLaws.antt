@@ -62,11 +62,11 @@ item_marks-one_to_one i j h = (same_item i j [] [] (append-nil (item_marks i) �
 
 -- ---- bytes
 
-abbrev marks_in : Result Begun HeadFault → List Mark
+abbrev pub marks_in : Result Begun HeadFault → List Mark
 marks_in (Ok b) = b.marks
 marks_in (Err f) = []
 
-abbrev after_in : Result Begun HeadFault → List ℕ
+abbrev pub after_in : Result Begun HeadFault → List ℕ
 after_in (Ok b) = b.after
 after_in (Err f) = []
 

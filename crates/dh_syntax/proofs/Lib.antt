@@ -1,8 +1,11 @@
 pub mod AlphaEquations
 pub mod Arity
+pub mod BinaryDepth
 pub mod BinaryDepthExamples
 pub mod BinaryFaultExamples
+pub mod BinaryFaultLaws
 pub mod BinaryHeadsOf
+pub mod BinaryOpen
 pub mod BinaryReadLaws
 pub mod Bridge
 pub mod LexingLaws

@@ -160,6 +160,11 @@ abbrev pub variable_of : List Item → Option (List ℕ)
 variable_of (x ∷ []) = spelled is_environment x
 variable_of _ = None
 
+-- nothing follows
+abbrev pub missing_of : List Item → Option Loc
+missing_of [] = Some locs.Missing
+missing_of _ = None
+
 -- a location by its scheme
 abbrev pub location_by : ℕ → List Item → Option Loc
 location_by n is =
@@ -170,7 +175,7 @@ location_by n is =
     else if n == 4 then (components_of is >>= λ cs. Some (locs.Parent cs))
     else if n == 5 then (components_of is >>= λ cs. Some (locs.Home cs))
     else if n == 6 then (variable_of is >>= λ x. Some (locs.Env x))
-    else if n == 7 && length is == 0 then Some locs.Missing
+    else if n == 7 then missing_of is
     else None
 
 abbrev pub import_of : List Item → Option Import

@@ -96,10 +96,13 @@ operators =
     op.Or ∷ op.And ∷ op.Equal ∷ op.NotEqual ∷ op.Plus ∷ op.Times ∷ op.TextAppend ∷ op.ListAppend ∷ op.Combine ∷ op.Prefer
     ∷ op.CombineTypes ∷ op.Fallback ∷ op.Equivalent ∷ op.Complete ∷ []
 
+abbrev pub operator : ℕ → Option BinOp
+operator n = find (λ o. op_code o == n) operators
+
 abbrev pub operation : List Part → Option Term
 operation (code ∷ ps) = do
   n ← unsigned_of code.item
-  o ← find (λ o. op_code o == n) operators
+  o ← operator n
   node_of (ops.Bin o) 2 ps
 operation _ = None
 
@@ -121,9 +124,13 @@ abbrev pub with_annotation : (Bool → Op) → ℕ → List Part → Option Term
 with_annotation op n ps = if length ps == n then node (op false) ps else node_of (op true) (1 + n) ps
 
 -- `[7, {x: A, ..}]` and `[8, {x: a, ..}]`
+abbrev pub held_by : Value → Option (List Term) → Option (List Term)
+held_by nothing others = None
+held_by (holds t) others = others >>= λ ts. Some (t ∷ ts)
+
 abbrev pub held : List Entry → Option (List Term)
 held [] = Some []
-held (e ∷ es) = elim e.value [ nothing ↦ None | holds t ↦ (held es >>= λ ts. Some (t ∷ ts)) ]
+held (e ∷ es) = held_by e.value (held es)
 
 abbrev pub fields : (List Name → Op) → List Part → Option Term
 fields op (m ∷ []) = do
@@ -163,12 +170,20 @@ projection (p ∷ q ∷ []) = p.term >>= λ e. projected_by e q.boxed (q ∷ [])
 projection (p ∷ q ∷ r ∷ ps) = p.term >>= λ e. projected e (q ∷ r ∷ ps)
 
 -- `[11, {x: T or null, ..}]`
+abbrev pub is_typed : Value → Bool
+is_typed nothing = false
+is_typed (holds t) = true
+
 abbrev pub alternative : Entry → Alt
-alternative e = record { label = e.name; typed = elim e.value [ nothing ↦ false | holds t ↦ true ] }
+alternative e = record { label = e.name; typed = is_typed e.value }
+
+abbrev pub types_by : Value → List Term → List Term
+types_by nothing others = others
+types_by (holds t) others = t ∷ others
 
 abbrev pub types : List Entry → List Term
 types [] = []
-types (e ∷ es) = elim e.value [ nothing ↦ types es | holds t ↦ t ∷ types es ]
+types (e ∷ es) = types_by e.value (types es)
 
 abbrev pub union : List Part → Option Term
 union (m ∷ []) = do
