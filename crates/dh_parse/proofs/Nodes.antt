@@ -1,6 +1,7 @@
 -- The plain tree of a node with no part, and with two.
 use Rattle.std.proofs.Common.{◌≡◌, List, [], ◌∷◌, ◌++◌, None, sym, ◌∙◌, ap}
-use Rattle.dh_syntax.specs.Bridge.{term, row_of, term-Node}
+use Rattle.dh_syntax.proofs.Bridge.{term-Node}
+use Rattle.dh_syntax.specs.Bridge.{term, row_of}
 use Rattle.dh_syntax.specs.Nesting.{nesting}
 use Rattle.dh_syntax.specs.Tree as tree
 use Rattle.dh_syntax.specs.Tree.{end, kid}

@@ -1,0 +1,10 @@
+use Rattle.std.proofs.Common.{◌≡◌, ◌∙◌, ap, true, codes}
+use lib.Dec.{eqb}
+use lib.Pointwise.{pointwise}
+use Rattle.dh_top.proofs.Commands.{verb_of-none}
+use Rattle.dh_top.proofs.words.verb_named.Goals as goal
+
+pub returns-else-eq : goal.returns-else-eq
+returns-else-eq c =
+    verb_of-none c.args.word.now (λ e. let equal : c.eq.result ≡ true = c.eq.ensures ∙ ap (λ w. pointwise eqb w (codes "encode")) e in
+    cc)

@@ -1,0 +1,5 @@
+pub mod Inputs
+pub mod Replies
+pub mod Runs
+pub mod SmallBytes
+pub mod Verbs

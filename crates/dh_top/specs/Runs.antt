@@ -1,0 +1,94 @@
+-- What one run of the command does to its input and to its two outputs.
+use Rattle.std.specs.Prelude.{◌≡◌, ℕ, ◌+◌, List, [], ◌++◌, take, Option, Some, None, IfSome, Result, Ok, Err, IsErr}
+use Rattle.std.specs.Io.{StartsWith}
+use Rattle.std.specs.Io.KnownBytes.{Appends, Consumes, Keeps}
+use Rattle.dh_ports.specs.Counts.{Rose}
+use Rattle.dh_syntax.specs.declared.faults.ParseFault.{ParseFault}
+use Rattle.dh_syntax.specs.declared.statuses.Status.{Status}
+use Rattle.dh_syntax.specs.declared.statuses.Status.TheVariants as status
+use Rattle.dh_syntax.specs.Answer.{Written, Answer, line, unread, without_memory}
+use Rattle.dh_syntax.specs.FaultLines.{read_line, write_line}
+use Rattle.dh_syntax.specs.Tree.{Term}
+use Rattle.dh_syntax.specs.Words.{Word, Verb, command_of}
+
+-- the input before and after a run: what is left, where that is known, and how many reads have failed
+pub record Input : Type 0 where
+  pub before : Option (List ℕ)
+  pub after : Option (List ℕ)
+  pub faults_before : ℕ
+  pub faults_after : ℕ
+
+-- an output before and after a run: what was written, where that is known, and how many writes have failed
+pub record Output : Type 0 where
+  pub before : Option (List ℕ)
+  pub after : Option (List ℕ)
+  pub faults_before : ℕ
+  pub faults_after : ℕ
+
+abbrev pub output : Option (List ℕ) → Option (List ℕ) → ℕ → ℕ → Output
+output before after faults_before faults_after = record { before = before; after = after; faults_before = faults_before; faults_after = faults_after }
+
+abbrev pub reading : Option (List ℕ) → Option (List ℕ) → ℕ → ℕ → Input
+reading before after faults_before faults_after = record { before = before; after = after; faults_before = faults_before; faults_after = faults_after }
+
+-- at most so many bytes are read, one more than a text may have
+abbrev pub most_read : ℕ
+most_read = 1048577
+
+-- A command reads its input, which is what was left, to the end or up to the most that is read. Words that are no
+-- command line leave it alone.
+abbrev pub IsRead : Result Verb ℕ → List ℕ → Input → Type 0
+IsRead (Ok v) text input = IfSome input.before (λ left. text ≡ left) × Consumes input.before input.after (take most_read text)
+IsRead (Err k) text input = Keeps input.before input.after
+
+-- What a run has to write: the answer to its words and its input, or one of the two faults that come before an answer.
+pub data Makes (Parses : List ℕ → Result Term ParseFault → Type 0) (words : List Word) (input : Input) (w : Written) : Type 0 where
+  answers : (text : List ℕ) → IsRead (command_of words) text input → Answer Parses words text w → Makes Parses words input w
+  cannot_read : (v : Verb) → command_of words ≡ Ok v → Rose input.faults_before input.faults_after → w ≡ unread → Makes Parses words input w
+  lacks_memory : w ≡ without_memory → Makes Parses words input w
+
+-- an output grew by just these bytes
+abbrev pub Gains : Output → List ℕ → Type 0
+Gains o bytes = Appends o.before o.after bytes
+
+-- an output grew by some first part of these bytes, and a write to it failed
+pub record Stops (o : Output) (bytes : List ℕ) : Type 0 where
+  pub part : List ℕ
+  pub begins : StartsWith bytes part
+  pub gains : Appends o.before o.after part
+  pub failed : Rose o.faults_before o.faults_after
+
+-- an output grew by some first part of these bytes
+pub record GainsPart (o : Output) (bytes : List ℕ) : Type 0 where
+  pub part : List ℕ
+  pub begins : StartsWith bytes part
+  pub gains : Appends o.before o.after part
+
+-- How it is written: whole, with its status; or a write to standard output failed, and the line `write failed` was
+-- tried on standard error; or a write to standard error failed.
+pub data Delivers (w : Written) (out err : Output) (s : Status) : Type 0 where
+  whole : Gains out w.out → Gains err w.err → s ≡ w.status → Delivers w out err s
+  out_failed : Stops out w.out → GainsPart err (line write_line) → s ≡ status.Write → Delivers w out err s
+  err_failed : Gains out w.out → Stops err w.err → s ≡ status.Write → Delivers w out err s
+
+-- a run of the command
+pub record Runs (Parses : List ℕ → Result Term ParseFault → Type 0) (words : List Word) (input : Input) (out err : Output) (s : Status) : Type 0 where
+  pub written : Written
+  pub makes : Makes Parses words input written
+  pub delivers : Delivers written out err s
+
+-- the words are no command line
+abbrev pub AreMisused : List Word → Type 0
+AreMisused words = IsErr (command_of words)
+
+-- the run could not read its input: nothing stands on standard output, and one line on standard error
+pub record ReadFailed (input : Input) (out err : Output) : Type 0 where
+  pub rose : Rose input.faults_before input.faults_after
+  pub nothing_out : Gains out []
+  pub told : Gains err (line read_line)
+
+-- no read and no write failed
+pub record Works (input : Input) (out err : Output) : Type 0 where
+  pub reads : ¬ Rose input.faults_before input.faults_after
+  pub writes : ¬ Rose out.faults_before out.faults_after
+  pub tells : ¬ Rose err.faults_before err.faults_after

@@ -1,0 +1,15 @@
+//! The command: its words, its input, its answer and how that is written.
+#![tactic(auto)]
+
+mod delivery;
+mod inputs;
+mod replies;
+mod runs;
+mod small_encoder;
+mod words;
+
+pub use runs::run_dhall;
+pub use words::{Verb, read_words};
+
+#[cfg(test)]
+mod tests;

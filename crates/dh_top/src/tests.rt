@@ -1,0 +1,124 @@
+use super::*;
+use dh_ports::{MemFeed, MemSink};
+use dh_syntax::{Bytes, Many, Status};
+use std::alloc::{AllocError, Global};
+use std::process::Abort;
+use std::test::Fail;
+
+/// What one run wrote, and its status.
+#[derive(Drop)]
+struct Ran {
+    out: Vec<u8>,
+    err: Vec<u8>,
+    status: Status,
+}
+
+/// The numbers of the calls that fail, on each of the three streams.
+#[derive(Clone, Copy)]
+struct Failing {
+    read: u64,
+    out: u64,
+    err: u64,
+}
+
+const NONE: Failing = Failing {
+    read: 0,
+    out: 0,
+    err: 0,
+};
+
+fn words_of(alloc: Global, words: &[&str]) -> Result<Vec<String>, AllocError> {
+    let mut all = Vec::new(alloc);
+    for word in words {
+        all.push(String::from_str(alloc, word)?)?;
+    }
+    Ok(all)
+}
+
+fn run_in_memory(alloc: Global, words: &[&str], input: &[u8], failing: Failing) -> Result<Ran, AllocError> {
+    let words = words_of(alloc, words)?;
+    let bytes = Bytes::of(Vec::from_slice(alloc, input)?);
+    let mut feed = MemFeed::new(alloc, bytes, Many::of(vec![in alloc; failing.read]?));
+    let mut out = MemSink::new(alloc, Many::of(vec![in alloc; failing.out]?));
+    let mut err = MemSink::new(alloc, Many::of(vec![in alloc; failing.err]?));
+    let status = run_dhall(alloc, words.as_slice(), &mut feed, &mut out, &mut err);
+    Ok(Ran {
+        out: Vec::from_slice(alloc, out.written_bytes())?,
+        err: Vec::from_slice(alloc, err.written_bytes())?,
+        status,
+    })
+}
+
+fn expect(rt: &(impl Abort + Eprint), ran: &Ran, out: &[u8], err: &str, status: Status) {
+    assert_eq!(rt; ran.out.as_slice(), out);
+    assert_eq!(rt; ran.err.as_slice(), err.as_bytes());
+    assert_eq!(rt; ran.status, status);
+}
+
+#[test]
+fn encodes_expressions(rt: HostRuntime) -> Result<(), Fail> {
+    let table: [(&str, &[u8]); 5] = [
+        ("1 + 2", &[0x84, 3, 4, 0x82, 15, 1, 0x82, 15, 2]),
+        ("True", &[0xF5]),
+        ("(True && False) || True", &[0x84, 3, 0, 0x84, 3, 1, 0xF5, 0xF4, 0xF5]),
+        (
+            "2 * 3 + 4",
+            &[0x84, 3, 4, 0x84, 3, 5, 0x82, 15, 2, 0x82, 15, 3, 0x82, 15, 4],
+        ),
+        (
+            " 18446744073709551615\r\n",
+            &[0x82, 15, 0x1B, 255, 255, 255, 255, 255, 255, 255, 255],
+        ),
+    ];
+    for (text, bytes) in table {
+        let ran = run_in_memory(rt.alloc(), &["encode"], text.as_bytes(), NONE)?;
+        expect(&rt, &ran, bytes, "", Status::Ok);
+    }
+    Ok(())
+}
+
+#[test]
+fn refuses_texts(rt: HostRuntime) -> Result<(), Fail> {
+    for text in ["", "1 2", "1+2", "1 +2", "18446744073709551616", "(1", "truE", "1 + \u{e9}"] {
+        let ran = run_in_memory(rt.alloc(), &["encode"], text.as_bytes(), NONE)?;
+        expect(&rt, &ran, &[], "syntax at 0\n", Status::Text);
+    }
+    Ok(())
+}
+
+#[test]
+fn refuses_words(rt: HostRuntime) -> Result<(), Fail> {
+    let first = run_in_memory(rt.alloc(), &[], b"1", NONE)?;
+    expect(&rt, &first, &[], "usage: word 1\n", Status::Usage);
+    let first = run_in_memory(rt.alloc(), &["Encode"], b"1", NONE)?;
+    expect(&rt, &first, &[], "usage: word 1\n", Status::Usage);
+    let second = run_in_memory(rt.alloc(), &["encode", "x"], b"1", NONE)?;
+    expect(&rt, &second, &[], "usage: word 2\n", Status::Usage);
+    Ok(())
+}
+
+#[test]
+fn tells_failed_devices(rt: HostRuntime) -> Result<(), Fail> {
+    let read = Failing { read: 1, out: 0, err: 0 };
+    let ran_read = run_in_memory(rt.alloc(), &["encode"], b"1", read)?;
+    expect(&rt, &ran_read, &[], "read failed\n", Status::Read);
+    let out = Failing { read: 0, out: 1, err: 0 };
+    let ran_out = run_in_memory(rt.alloc(), &["encode"], b"True", out)?;
+    expect(&rt, &ran_out, &[], "write failed\n", Status::Write);
+    let err = Failing { read: 0, out: 0, err: 1 };
+    let ran_err = run_in_memory(rt.alloc(), &["encode"], b"x", err)?;
+    expect(&rt, &ran_err, &[], "", Status::Write);
+    Ok(())
+}
+
+#[test]
+fn reads_to_the_limit(rt: HostRuntime) -> Result<(), Fail> {
+    let mut text = vec![in rt.alloc(); b' '; 1_048_575]?;
+    text.push(b'1')?;
+    let longest = run_in_memory(rt.alloc(), &["encode"], text.as_slice(), NONE)?;
+    expect(&rt, &longest, &[0x82, 15, 1], "", Status::Ok);
+    text.push(b' ')?;
+    let longer = run_in_memory(rt.alloc(), &["encode"], text.as_slice(), NONE)?;
+    expect(&rt, &longer, &[], "syntax at 0\n", Status::Text);
+    Ok(())
+}

@@ -1,0 +1,36 @@
+ghost use Rattle.std.specs.Prelude.{◌≡◌, Ok, Err, map, string_bytes, option_map, MatchResult};
+ghost use Rattle.dh_syntax.specs.Words.{verb_of, command_of};
+ghost use Rattle.dh_top.specs.Verbs.{asked};
+
+/// The commands.
+#[derive(Clone, Copy, Debug, PartialEq, Eq)]
+pub enum Verb {
+    Encode,
+}
+
+/// The command that a word names.
+fn verb_named(word: &str) -> Option<Verb>
+    ensures { option_map asked result ≡ verb_of word.now }
+{
+    if word == "encode" {
+        Some(Verb::Encode)
+    } else {
+        None
+    }
+}
+
+/// What the words after the program's name ask for. `Err` is the number, from 1, of the first word that makes them
+/// no prefix of a command line, and one more than their count where words are wanting.
+pub fn read_words(words: &[String]) -> Result<Verb, u32>
+    ensures { MatchResult result
+        (λ verb. command_of (map string_bytes words.now) ≡ Ok (asked verb))
+        (λ k. command_of (map string_bytes words.now) ≡ Err k) }
+{
+    let Some((word, rest)) = words.split_first() else {
+        return Err(1);
+    };
+    let Some(verb) = verb_named(word.as_str()) else {
+        return Err(1);
+    };
+    if rest.is_empty() { Ok(verb) } else { Err(2) }
+}
