@@ -1,5 +1,5 @@
 -- Replies as answers.
-use Rattle.std.proofs.Common.{◌≡◌, ◌⊎◌, inl, inr, ℕ, ◌+◌, ◌<◌, ◌≤◌, List, [], length, take, Option, Some, None, Result, Ok, Err, IfOk, IfSome, refl, sym, ap, ◌∙◌, subst, arith, take_all, length-take-le, Bool, true, false, nat_lt}
+use Rattle.std.proofs.Common.{◌≡◌, ◌⊎◌, inl, inr, ℕ, ◌≤◌, List, [], length, take, Option, Some, None, Result, Ok, Err, IfOk, IfSome, refl, sym, ◌∙◌, subst, arith, take_all, length-take-le, Bool, true, false, nat_lt}
 use Rattle.std.proofs.lemmas.Bool.{ltb-true, ltb-false}
 use Rattle.std.specs.Io.KnownBytes.{Consumes, Keeps}
 use Rattle.std.specs.declared.alloc.AllocError.{AllocError}
@@ -37,9 +37,9 @@ cases_le m n = by_test m n (nat_lt n m) refl
 -- what was read of a text is parsed as the whole text
 pub parses_whole : (n : ℕ) (text bytes : List ℕ) (o : Result Term ParseFault) → n ≡ 1048577 → bytes ≡ take n text → ParsesTo bytes o → ParsesTo text o
 parses_whole n text bytes o m e p = elim (cases_le (length text) n) [
-    inl h ↦ subst (λ t. ParsesTo t o) (e ∙ take_all n text h) p
+  | inl h ↦ subst (λ t. ParsesTo t o) (e ∙ take_all n text h) p
   | inr h ↦ longer n text o m h (subst (λ t. ParsesTo t o) e p)
-  ]
+]
 
 answered : (n : ℕ) (words : List Word) (text bytes : List ℕ) (w : Written) → n ≡ 1048577 → command_of words ≡ Ok encode → bytes ≡ take n text
     → Encodes ParsesTo bytes w → Answer ParsesTo words text w

@@ -1,5 +1,5 @@
 -- What a loop that reads an input keeps.
-use Rattle.std.proofs.Common.{◌≡◌, ℕ, ◌+◌, ◌<◌, ◌≤◌, ◌++◌, List, [], length, take, Option, Some, None, IfSome, refl, sym, ap, ◌∙◌, arith, length-append, append-nil, take_all, append_assoc, false, true, Bool, subst}
+use Rattle.std.proofs.Common.{◌≡◌, ℕ, ◌<◌, ◌≤◌, ◌++◌, List, length, take, Option, Some, None, IfSome, sym, ap, ◌∙◌, arith, append-nil, take_all, append_assoc, false, Bool, subst}
 use Rattle.std.specs.Io.KnownBytes.{Consumes, IsAtEnd}
 use Rattle.dh_top.specs.Inputs.{TakesPiece}
 use Rattle.std.specs.Prelude.{MatchBool}

@@ -1,12 +1,11 @@
 -- What a run says of its words and of its devices.
-use Rattle.std.proofs.Common.{◌≡◌, ◌⊎◌, inl, inr, ℕ, ◌++◌, List, [], ◌∷◌, Option, Some, None, Result, Ok, Err, IfOk, IfSome, refl, sym, ap, ◌∙◌, subst}
+use Rattle.std.proofs.Common.{◌≡◌, ◌⊎◌, inl, inr, ℕ, List, Option, Some, None, Result, Ok, Err, IfOk, IfSome, refl, sym, ap, ◌∙◌, subst}
 use Rattle.std.specs.Prelude.{IsErr}
 use Rattle.dh_ports.specs.Counts.{Rose}
 use Rattle.dh_syntax.specs.declared.faults.ParseFault.{ParseFault}
 use Rattle.dh_syntax.specs.declared.statuses.Status.{Status}
 use Rattle.dh_syntax.specs.declared.statuses.Status.TheVariants as status
-use Rattle.dh_syntax.specs.Answer.{Written, Answer, usage, encodes, encoded, misused, unread, without_memory, line}
-use Rattle.dh_syntax.specs.FaultLines.{read_line}
+use Rattle.dh_syntax.specs.Answer.{Written, usage, encodes, encoded, unread}
 use Rattle.dh_syntax.specs.Tree.{Term}
 use Rattle.dh_syntax.specs.Words.{Word, Verb, encode, command_of}
 use Rattle.dh_parse.specs.SmallSpelling.{ParsesTo}

@@ -1,5 +1,5 @@
 -- The expressions of the small language and their bytes.
-use Rattle.std.proofs.Common.{◌≡◌, ℕ, ◌+◌, ◌<◌, ◌≤◌, ◌^◌, ◌++◌, List, [], ◌∷◌, length, get_or, take, drop, Option, Some, None, Bool, true, false, if◌then◌else◌, refl, sym, ap, ◌∙◌, arith, append_assoc, append-nil, subst, nat_lt, lt-ltb, Result, Ok, Err}
+use Rattle.std.proofs.Common.{◌≡◌, ℕ, ◌<◌, ◌^◌, ◌++◌, List, [], ◌∷◌, length, get_or, Option, Some, None, Bool, true, if◌then◌else◌, refl, sym, ap, ◌∙◌, append_assoc, append-nil, subst, nat_lt, lt-ltb, Result, Ok, Err}
 use Rattle.std.specs.Prelude.{OnOk}
 use Rattle.dh_syntax.specs.declared.expressions.Expr.{Expr}
 use Rattle.dh_syntax.specs.declared.expressions.Expr.TheVariants as expr
@@ -15,7 +15,6 @@ use Rattle.dh_syntax.specs.Cbor.{head, natural, truth, bytes, fewest_bytes}
 use Rattle.dh_syntax.specs.Operators.{op_code}
 use Rattle.dh_syntax.specs.Tree as tree
 use Rattle.dh_syntax.specs.Tree.{Term, Name, Row, end, kid}
-use Rattle.dh_parse.specs.SmallGrammar.{level}
 use Rattle.dh_parse.specs.SmallTerms.{IsSmall}
 use Rattle.dh_top.specs.SmallBytes.{natural_bytes, operator_bytes}
 

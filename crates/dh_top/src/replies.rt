@@ -117,7 +117,11 @@ fn perform<I: Feed>(alloc: Global, verb: Verb, input: &mut I) -> Result<Reply, A
 }
 
 /// The reply to the words of the command line, with the input that they ask for.
-pub(crate) fn reply_to<I: Feed>(alloc: Global, words: &[String], input: &mut I) -> Result<Reply, AllocError>
+pub(crate) fn reply_to<I: Feed>(
+    alloc: Global,
+    words: &[String],
+    input: &mut I,
+) -> Result<Reply, AllocError>
     ensures { IfOk result (λ r. Makes ParsesTo (map string_bytes words.now)
         (reading (I.left input.old) (I.left input.new) (I.faults input.old) (I.faults input.new)) (written r)) }
 {

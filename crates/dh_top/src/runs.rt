@@ -40,8 +40,8 @@ pub fn run_dhall<I: Feed, O: Sink, E: Sink>(
     // A command on an expression succeeds where no device fails, unless memory is wanting.
     ensures completes { IfSome (I.left input.old) (λ text. (e : Term) → ParsesTo text (Ok e) → ¬ AreMisused (map string_bytes words.now)
         → Works (reading (I.left input.old) (I.left input.new) (I.faults input.old) (I.faults input.new))
-            (output (O.written out.old) (O.written out.new) (O.faults out.old) (O.faults out.new))
-            (output (E.written err.old) (E.written err.new) (E.faults err.old) (E.faults err.new))
+        (output (O.written out.old) (O.written out.new) (O.faults out.old) (O.faults out.new))
+        (output (E.written err.old) (E.written err.new) (E.faults err.old) (E.faults err.new))
         → (result ≡ Status.Ok) ⊎ (result ≡ Status.Memory)) }
 {
     match reply_to(alloc, words, input) {

@@ -35,7 +35,12 @@ fn words_of(alloc: Global, words: &[&str]) -> Result<Vec<String>, AllocError> {
     Ok(all)
 }
 
-fn run_in_memory(alloc: Global, words: &[&str], input: &[u8], failing: Failing) -> Result<Ran, AllocError> {
+fn run_in_memory(
+    alloc: Global,
+    words: &[&str],
+    input: &[u8],
+    failing: Failing,
+) -> Result<Ran, AllocError> {
     let words = words_of(alloc, words)?;
     let bytes = Bytes::of(Vec::from_slice(alloc, input)?);
     let mut feed = MemFeed::new(alloc, bytes, Many::of(vec![in alloc; failing.read]?));
@@ -60,10 +65,15 @@ fn encodes_expressions(rt: HostRuntime) -> Result<(), Fail> {
     let table: [(&str, &[u8]); 5] = [
         ("1 + 2", &[0x84, 3, 4, 0x82, 15, 1, 0x82, 15, 2]),
         ("True", &[0xF5]),
-        ("(True && False) || True", &[0x84, 3, 0, 0x84, 3, 1, 0xF5, 0xF4, 0xF5]),
+        (
+            "(True && False) || True",
+            &[0x84, 3, 0, 0x84, 3, 1, 0xF5, 0xF4, 0xF5],
+        ),
         (
             "2 * 3 + 4",
-            &[0x84, 3, 4, 0x84, 3, 5, 0x82, 15, 2, 0x82, 15, 3, 0x82, 15, 4],
+            &[
+                0x84, 3, 4, 0x84, 3, 5, 0x82, 15, 2, 0x82, 15, 3, 0x82, 15, 4,
+            ],
         ),
         (
             " 18446744073709551615\r\n",
@@ -79,7 +89,16 @@ fn encodes_expressions(rt: HostRuntime) -> Result<(), Fail> {
 
 #[test]
 fn refuses_texts(rt: HostRuntime) -> Result<(), Fail> {
-    for text in ["", "1 2", "1+2", "1 +2", "18446744073709551616", "(1", "truE", "1 + \u{e9}"] {
+    for text in [
+        "",
+        "1 2",
+        "1+2",
+        "1 +2",
+        "18446744073709551616",
+        "(1",
+        "truE",
+        "1 + \u{e9}",
+    ] {
         let ran = run_in_memory(rt.alloc(), &["encode"], text.as_bytes(), NONE)?;
         expect(&rt, &ran, &[], "syntax at 0\n", Status::Text);
     }
@@ -99,13 +118,25 @@ fn refuses_words(rt: HostRuntime) -> Result<(), Fail> {
 
 #[test]
 fn tells_failed_devices(rt: HostRuntime) -> Result<(), Fail> {
-    let read = Failing { read: 1, out: 0, err: 0 };
+    let read = Failing {
+        read: 1,
+        out: 0,
+        err: 0,
+    };
     let ran_read = run_in_memory(rt.alloc(), &["encode"], b"1", read)?;
     expect(&rt, &ran_read, &[], "read failed\n", Status::Read);
-    let out = Failing { read: 0, out: 1, err: 0 };
+    let out = Failing {
+        read: 0,
+        out: 1,
+        err: 0,
+    };
     let ran_out = run_in_memory(rt.alloc(), &["encode"], b"True", out)?;
     expect(&rt, &ran_out, &[], "write failed\n", Status::Write);
-    let err = Failing { read: 0, out: 0, err: 1 };
+    let err = Failing {
+        read: 0,
+        out: 0,
+        err: 1,
+    };
     let ran_err = run_in_memory(rt.alloc(), &["encode"], b"x", err)?;
     expect(&rt, &ran_err, &[], "", Status::Write);
     Ok(())

@@ -5,11 +5,10 @@ mod streams;
 
 use dh_syntax::Status;
 use dh_top::run_dhall;
-use std::env;
 use std::env::Env;
-use std::io;
 use std::io::ErrorKind;
 use std::process::ExitCode;
+use std::{env, io};
 use streams::{Source, Target};
 
 /// The words after the program's name.
@@ -31,12 +30,6 @@ fn main(rt: HostRuntime) -> ExitCode {
     let mut input = Source::new(rt.stdin());
     let mut out = Target::new(rt.stdout());
     let mut err = Target::new(rt.stderr());
-    let status = run_dhall(
-        rt.alloc(),
-        words.as_slice(),
-        &mut input,
-        &mut out,
-        &mut err,
-    );
+    let status = run_dhall(rt.alloc(), words.as_slice(), &mut input, &mut out, &mut err);
     ExitCode::from(status.code())
 }

@@ -85,3 +85,56 @@ impl<W: Write> Sink for Target<W> {
         }
     }
 }
+
+#[cfg(test)]
+mod tests {
+    use super::*;
+    use std::io;
+    use std::test::Fail;
+
+    /// A reader that fails, and a writer that takes nothing.
+    #[derive(Drop)]
+    struct Broken;
+
+    impl Read for Broken {
+        fn read(&mut self, _into: &mut [u8]) -> io::Result<usize> {
+            Err(io::Error::from(ErrorKind::BrokenPipe))
+        }
+    }
+
+    impl Write for Broken {
+        fn write(&mut self, _bytes: &[u8]) -> io::Result<usize> {
+            Ok(0)
+        }
+
+        fn flush(&mut self) -> io::Result<()> {
+            Ok(())
+        }
+    }
+
+    #[test]
+    fn reads_and_fails(rt: HostRuntime) -> Result<(), Fail> {
+        let mut source = Source::new(b"1 + 2".as_slice());
+        let mut piece = [0u8; 4];
+        assert_eq!(rt; source.read(&mut piece), Ok(4));
+        assert_eq!(rt; piece.as_slice(), b"1 + ".as_slice());
+        assert_eq!(rt; source.read(&mut piece), Ok(1));
+        assert_eq!(rt; source.read(&mut piece), Ok(0));
+        let mut broken = Source::new(Broken);
+        assert_eq!(rt; broken.read(&mut piece), Err(ReadError::Failed));
+        assert_eq!(rt; broken.failed, 1);
+        Ok(())
+    }
+
+    #[test]
+    fn writes_and_fails(rt: HostRuntime) -> Result<(), Fail> {
+        let mut target = Target::new(Vec::new(rt.alloc()));
+        assert_eq!(rt; target.write(b"abc"), Ok(3));
+        assert_eq!(rt; target.writer.as_slice(), b"abc".as_slice());
+        let mut broken = Target::new(Broken);
+        assert_eq!(rt; broken.write(b"abc"), Err(WriteError::Failed));
+        assert_eq!(rt; broken.failed, 1);
+        assert_eq!(rt; broken.write(b""), Ok(0));
+        Ok(())
+    }
+}

@@ -1,4 +1,3 @@
-use Rattle.std.proofs.Common.{map, string_bytes}
 use Rattle.dh_top.specs.Verbs.{asked}
 use Rattle.dh_top.proofs.Encodings.{made_by_words, made_misused, keeps_itself}
 use Rattle.dh_top.proofs.replies.reply_to.Goals as goal

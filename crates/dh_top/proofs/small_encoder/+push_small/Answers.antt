@@ -19,26 +19,24 @@ pub unreachable-requires-in-len3-up : goal.unreachable-requires-in-len3-up
 unreachable-requires-in-len3-up t c = omega (arith, parts-two c.args.e.now c.in-Bin.operator c.in-Node.op c.in-Node.kids c.in-Node.is c.in-Bin.is c.requires, ap length c.as_slice.ensures)
 
 pub push_small-requires : goal.push_small-requires
-push_small-requires t c =
-    (
-      search (rules, the_lemmas),
-      (
-        parts-at c.args.e.now c.in-Bin.operator c.in-Node.op c.in-Node.kids c.l-item.result c.r-item.result c.in-Node.is c.in-Bin.is c.requires
-        (c.l-item.is ∙ ap (λ ks. get_or ks 0 c.l-item.result) c.as_slice.ensures)
-        (c.r-item.is ∙ ap (λ ks. get_or ks 1 c.r-item.result) c.as_slice.ensures)
+push_small-requires t c = (
+  search (rules, the_lemmas),
+  (
+      parts-at c.args.e.now c.in-Bin.operator c.in-Node.op c.in-Node.kids c.l-item.result c.r-item.result c.in-Node.is c.in-Bin.is c.requires
+      (c.l-item.is ∙ ap (λ ks. get_or ks 0 c.l-item.result) c.as_slice.ensures)
+      (c.r-item.is ∙ ap (λ ks. get_or ks 1 c.r-item.result) c.as_slice.ensures)
       ).left_small,
-    )
+)
 
 pub push_small-requires-in-len2 : goal.push_small-requires-in-len2
-push_small-requires-in-len2 t c =
-    (
-      search (rules, the_lemmas),
-      (
-        parts-at c.args.e.now c.in-Bin.operator c.in-Node.op c.in-Node.kids c.l-item.result c.r-item.result c.in-Node.is c.in-Bin.is c.requires
-        (c.l-item.is ∙ ap (λ ks. get_or ks 0 c.l-item.result) c.as_slice.ensures)
-        (c.r-item.is ∙ ap (λ ks. get_or ks 1 c.r-item.result) c.as_slice.ensures)
+push_small-requires-in-len2 t c = (
+  search (rules, the_lemmas),
+  (
+      parts-at c.args.e.now c.in-Bin.operator c.in-Node.op c.in-Node.kids c.l-item.result c.r-item.result c.in-Node.is c.in-Bin.is c.requires
+      (c.l-item.is ∙ ap (λ ks. get_or ks 0 c.l-item.result) c.as_slice.ensures)
+      (c.r-item.is ∙ ap (λ ks. get_or ks 1 c.r-item.result) c.as_slice.ensures)
       ).right_small,
-    )
+)
 
 pub unreachable-requires-in_default-op : goal.unreachable-requires-in_default-op
 unreachable-requires-in_default-op t c =
