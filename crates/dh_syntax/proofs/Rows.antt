@@ -87,7 +87,7 @@ pub row_keeps_pushed : (F G : Row Var Name → Row Var Name) (done next ks : Lis
 row_keeps_pushed F G done next ks i k j b e whole so_far h at pushed same_binder same_body step =
     let rest = G (row_of (drop (i + 1) ks)) in
     ap (λ d. row_of d +++ rest) pushed
-        ∙ row_keeps F G done ks i k j whole so_far h at (step ∙ ap (λ c. kid c e rest) (sym same_binder) ∙ ap (λ d. kid j.binder d rest) (sym same_body))
+    ∙ row_keeps F G done ks i k j whole so_far h at (step ∙ ap (λ c. kid c e rest) (sym same_binder) ∙ ap (λ d. kid j.binder d rest) (sym same_body))
 
 pub row_begins : (F : Row Var Name → Row Var Name) (ks : List Kid) → row_of [] +++ F (row_of (drop 0 ks)) ≡ F (row_of ks)
 row_begins F ks = ap (λ r. r +++ F (row_of ks)) row_of-nil

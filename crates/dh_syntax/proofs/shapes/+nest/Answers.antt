@@ -18,10 +18,10 @@ nest_of_kids-loop-kid-preserved t c =
       fits = omega arith;
       whole =
           nesting_keeps c.as_slice-kid-items.result.now c.loop-kid.kid-index c.loop-kid.most 4294967295 c.nest.result c.saturating_add.result c.max-most.result _ c.kid-item.result
-              c.loop-kid-test.true c.kid-item.is c.nest.ensures c.saturating_add.ensures c.max-most.ensures c.loop-kid.invariant.whole;
+          c.loop-kid-test.true c.kid-item.is c.nest.ensures c.saturating_add.ensures c.max-most.ensures c.loop-kid.invariant.whole;
     }
 
 pub nest_of_kids-returns : goal.nest_of_kids-returns
 nest_of_kids-returns t c =
     nesting_ends c.as_slice-kid-items.result.now c.loop-kid.kid-index c.loop-kid.most 4294967295 _ c.loop-kid-test.false c.loop-kid.invariant.fits c.loop-kid.invariant.whole
-        ∙ ap (λ ks. min (parts_nesting (row_of ks)) 4294967295) c.as_slice-kid-items.ensures
+    ∙ ap (λ ks. min (parts_nesting (row_of ks)) 4294967295) c.as_slice-kid-items.ensures
