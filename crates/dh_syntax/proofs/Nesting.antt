@@ -1,22 +1,12 @@
 -- How deep the expressions of the program nest.
 use Rattle.std.specs.Prelude.{◌≡◌, ℕ, suc, ◌+◌, min, max, ◌<◌, ◌≤◌, List, length, drop}
 use Rattle.std.proofs.Common.{◌∙◌, ap, sym, arith, get_or}
-use Rattle.dh_syntax.specs.declared.expressions.Expr.TheVariants as expr
 use Rattle.dh_syntax.specs.declared.expressions.Kid.{Kid}
-use Rattle.dh_syntax.specs.declared.expressions.Op.{Op}
-use Rattle.dh_syntax.specs.Tree.{Name}
 use Rattle.dh_syntax.specs.Nesting.{nesting, parts_nesting}
 use Rattle.dh_syntax.specs.Bridge.{term, row_of}
-use Rattle.dh_syntax.proofs.Bridge.{term-Var, term-Node}
 use Rattle.dh_syntax.proofs.Rows.{row_of-drop_item, row_of-drop_all}
 
-pub nesting-Var : (x : Name) (n : ℕ) → nesting (term (expr.Var x n)) ≡ 0
-nesting-Var x n = ap nesting (term-Var x n)
-
-pub nesting-Node : (op : Op) (ks : List Kid) → nesting (term (expr.Node op ks)) ≡ parts_nesting (row_of ks)
-nesting-Node op ks = ap nesting (term-Node op ks)
-
--- The greatest so far and the rest, up to a limit.
+-- the greatest so far and the rest, up to a limit
 stops : (most n p limit sub step next : ℕ) → sub ≡ min n limit → step ≡ min (sub + 1) limit → next ≡ max most step →
     min (max next p) limit ≡ min (max most (max (suc n) p)) limit
 stops most n p limit sub step next a b c = omega arith

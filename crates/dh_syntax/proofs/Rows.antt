@@ -1,10 +1,10 @@
 -- Laws of rows, and what a loop over the kids of a node needs.
-use Rattle.std.specs.Prelude.{◌≡◌, ◌<◌, ◌≤◌, ℕ, suc, ◌+◌, List, [], ◌∷◌, ◌++◌, length, drop, Some, slice_get, refl}
+use Rattle.std.specs.Prelude.{◌≡◌, ◌<◌, ◌≤◌, ℕ, suc, ◌+◌, List, [], ◌∷◌, ◌++◌, length, drop, Option, Some, slice_get, refl}
 use Rattle.std.proofs.Common.{sym, ◌∙◌, ap, get_or, arith}
 use Rattle.std.proofs.lemmas.List.{drop_more, drop_all}
 use Rattle.std.proofs.lemmas.Option.{slice_get_within, get_or_from_slice_get}
 use Rattle.dh_syntax.specs.declared.expressions.Kid.{Kid}
-use Rattle.dh_syntax.specs.Tree.{Row, end, kid, Var, Name}
+use Rattle.dh_syntax.specs.Tree.{Row, end, kid, Var, Name, Term}
 use Rattle.dh_syntax.specs.Rows.{◌+++◌, row_length}
 use Rattle.dh_syntax.specs.Bridge.{term, row_of}
 use Rattle.dh_syntax.proofs.Bridge.{row_of-nil, row_of-cons}
@@ -78,6 +78,16 @@ row_keeps F G done ks i k j whole so_far h e step =
     let rest = row_of (drop (i + 1) ks) in
     ap (λ r. r +++ G rest) (row_of-push done j) ∙ +++_assoc (row_of done) (kid j.binder (term j.body) end) (G rest) ∙ ap (λ r. row_of done +++ r) (sym step)
     ∙ ap (λ r. row_of done +++ F r) (sym (row_of-drop_item ks i k h e)) ∙ so_far
+
+-- The same where the loop pushes a kid whose binder and body are known.
+pub row_keeps_pushed : (F G : Row Var Name → Row Var Name) (done next ks : List Kid) (i : ℕ) (k j : Kid) (b : Option Name) (e : Term) (whole : Row Var Name) →
+    row_of done +++ F (row_of (drop i ks)) ≡ whole → i < length ks → k ≡ get_or ks i k → next ≡ done ++ j ∷ [] → j.binder ≡ b → term j.body ≡ e →
+    F (kid k.binder (term k.body) (row_of (drop (i + 1) ks))) ≡ kid b e (G (row_of (drop (i + 1) ks))) →
+    row_of next +++ G (row_of (drop (i + 1) ks)) ≡ whole
+row_keeps_pushed F G done next ks i k j b e whole so_far h at pushed same_binder same_body step =
+    let rest = G (row_of (drop (i + 1) ks)) in
+    ap (λ d. row_of d +++ rest) pushed
+    ∙ row_keeps F G done ks i k j whole so_far h at (step ∙ ap (λ c. kid c e rest) (sym same_binder) ∙ ap (λ d. kid j.binder d rest) (sym same_body))
 
 pub row_begins : (F : Row Var Name → Row Var Name) (ks : List Kid) → row_of [] +++ F (row_of (drop 0 ks)) ≡ F (row_of ks)
 row_begins F ks = ap (λ r. r +++ F (row_of ks)) row_of-nil

@@ -1,21 +1,23 @@
 use Rattle.std.proofs.Common.{min, ap, sym, ◌∙◌, arith}
-use Rattle.dh_syntax.specs.Bridge.{term, row_of}
+use Rattle.dh_syntax.specs.Bridge.{row_of}
 use Rattle.dh_syntax.specs.Nesting.{nesting, parts_nesting}
-use Rattle.dh_syntax.proofs.Nesting.{nesting-Var, nesting-Node, nesting_keeps, nesting_ends}
+use Rattle.dh_syntax.proofs.Bridge.{at_term-Var, at_term-Node}
+use Rattle.dh_syntax.proofs.Nesting.{nesting_keeps, nesting_ends}
 use Rattle.dh_syntax.proofs.shapes.+nest.Goals as goal
 
 pub nest-returns-in-Var : goal.nest-returns-in-Var
-nest-returns-in-Var t c = sym (ap (λ e. min (nesting (term e)) 4294967295) c.in-Var.is ∙ ap (λ n. min n 4294967295) (nesting-Var c.in-Var.field-0 c.in-Var.field-1))
+nest-returns-in-Var t c = sym (at_term-Var (λ e. min (nesting e) 4294967295) c.args.e.now c.in-Var.field-0 c.in-Var.field-1 c.in-Var.is)
 
 pub nest-returns-in-Node : goal.nest-returns-in-Node
 nest-returns-in-Node t c =
-    c.nest_of_kids.ensures ∙ sym (ap (λ e. min (nesting (term e)) 4294967295) c.in-Node.is ∙ ap (λ n. min n 4294967295) (nesting-Node c.in-Node.field-0 c.in-Node.kids))
+    c.nest_of_kids.ensures ∙ sym (at_term-Node (λ e. min (nesting e) 4294967295) c.args.e.now c.in-Node.field-0 c.in-Node.kids c.in-Node.is)
 
 pub nest_of_kids-loop-kid-preserved : goal.nest_of_kids-loop-kid-preserved
 nest_of_kids-loop-kid-preserved t c =
     record {
       fits = omega arith;
-      whole = nesting_keeps c.as_slice-kid-items.result.now c.loop-kid.kid-index c.loop-kid.most 4294967295 c.nest.result c.saturating_add.result c.max-most.result _ c.kid-item.result
+      whole =
+          nesting_keeps c.as_slice-kid-items.result.now c.loop-kid.kid-index c.loop-kid.most 4294967295 c.nest.result c.saturating_add.result c.max-most.result _ c.kid-item.result
           c.loop-kid-test.true c.kid-item.is c.nest.ensures c.saturating_add.ensures c.max-most.ensures c.loop-kid.invariant.whole;
     }
 
