@@ -15,6 +15,7 @@ pub mod Bridge
 pub mod BuiltinLists
 pub mod BuiltinNumbers
 pub mod BuiltinTexts
+pub mod BuiltinTypes
 pub mod Builtins
 pub mod Cbor
 pub mod Characters
@@ -49,6 +50,7 @@ pub mod GrammarExamplesRecords
 pub mod GrammarExamplesRefusals
 pub mod Heads
 pub mod Indices
+pub mod Inference
 pub mod Labels
 pub mod Levels
 pub mod LexExamples
@@ -72,6 +74,7 @@ pub mod Locations
 pub mod Meaning
 pub mod Moves
 pub mod Named
+pub mod NamedTyping
 pub mod Nameless
 pub mod NamelessExamples
 pub mod NamelessRunExamples
@@ -92,6 +95,7 @@ pub mod PrintedOperatorExamples
 pub mod RowTerms
 pub mod Rows
 pub mod SameTree
+pub mod Scopes
 pub mod Spellable
 pub mod Spelling
 pub mod Statuses
@@ -102,6 +106,15 @@ pub mod Subst
 pub mod SubstExamples
 pub mod Tree
 pub mod Trees
+pub mod TypeRows
+pub mod TypeRules
+pub mod TypeRulesOperators
+pub mod TypeRulesRecords
+pub mod TypeRulesUnions
+pub mod TypeRuling
+pub mod TypeViews
+pub mod Typing
+pub mod Universes
 pub mod Views
 pub mod Words
 pub mod Yield
