@@ -114,6 +114,12 @@ pub mod TypeRulesUnions
 pub mod TypeRuling
 pub mod TypeViews
 pub mod Typing
+pub mod TypingExamples
+pub mod TypingExamplesFunctions
+pub mod TypingExamplesOperators
+pub mod TypingExamplesRecords
+pub mod TypingExamplesUnions
+pub mod TypingTerms
 pub mod Universes
 pub mod Views
 pub mod Words
