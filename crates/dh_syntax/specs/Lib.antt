@@ -16,6 +16,7 @@ pub mod BuiltinLists
 pub mod BuiltinNumbers
 pub mod BuiltinTexts
 pub mod BuiltinTypes
+pub mod BuiltinTypesExamples
 pub mod Builtins
 pub mod Cbor
 pub mod Characters
@@ -79,6 +80,8 @@ pub mod Nameless
 pub mod NamelessExamples
 pub mod NamelessRunExamples
 pub mod NamelessRuns
+pub mod NamelessTyping
+pub mod NamelessTypingExamples
 pub mod Needs
 pub mod NeedsExamples
 pub mod Nesting
@@ -106,6 +109,7 @@ pub mod Subst
 pub mod SubstExamples
 pub mod Tree
 pub mod Trees
+pub mod TypeRowExamples
 pub mod TypeRows
 pub mod TypeRules
 pub mod TypeRulesOperators
@@ -119,6 +123,8 @@ pub mod TypingExamplesFunctions
 pub mod TypingExamplesOperators
 pub mod TypingExamplesRecords
 pub mod TypingExamplesUnions
+pub mod TypingExamplesUnits
+pub mod TypingLimitExamples
 pub mod TypingTerms
 pub mod Universes
 pub mod Views

@@ -20,7 +20,6 @@ pub data Rule : Type 0 where
   WrongArgument : Rule
   -- `let`: the type of the value is not the annotation
   LetAnnotation : Rule
-
   -- ---- `if` and the operators on Bool, Natural, Text and List
 
   -- the condition is no Bool; the type of the branches is not in Type; the types of the branches differ
@@ -30,7 +29,6 @@ pub data Rule : Type 0 where
   -- the left side, the right side has another type than the operator takes
   LeftSide : Rule
   RightSide : Rule
-
   -- ---- lists and optional values
 
   -- `[] : t`: t is no `List x`
@@ -40,7 +38,6 @@ pub data Rule : Type 0 where
   ElementsDiffer : Rule
   -- `Some e`: the type of e is not in Type
   SomeNotInType : Rule
-
   -- ---- records, record types and unions
 
   -- the type of a field of a record type is no universe
@@ -67,7 +64,6 @@ pub data Rule : Type 0 where
   LeftNoRecordType : Rule
   RightNoRecordType : Rule
   FieldTypesCollide : Rule
-
   -- ---- `merge` and `toMap`
 
   -- the handlers are no record; what is merged is no union and no optional value
@@ -88,7 +84,6 @@ pub data Rule : Type 0 where
   ToMapEmpty : Rule
   -- the annotation is no list of entries of that type
   ToMapAnnotation : Rule
-
   -- ---- texts, assertions and annotations
 
   -- an interpolation is no Text
@@ -102,7 +97,6 @@ pub data Rule : Type 0 where
   SidesNotInType : Rule
   -- `e : t`: the type of e is not t
   AnnotationDiffers : Rule
-
   -- ---- record completion, `with` and what is left of imports
 
   -- `t::r`: the longer expression that it stands for has no type

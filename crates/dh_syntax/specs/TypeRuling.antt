@@ -47,14 +47,14 @@ pub data Ruled (T : Type 0) : Type 0 where
   No : Rule → Ruled T
 
 module _ {T : Type 0} where
+  abbrev pub prepend_type : Option T → List T → List T
+  prepend_type (Some t) ts = t ∷ ts
+  prepend_type None ts = ts
+
   -- the types of the parts that have one
   abbrev pub types_of : List (Known T) → List T
   types_of [] = []
-  types_of (k ∷ ks) = with_type k.typed (types_of ks)
-    where
-      with_type : Option T → List T → List T
-      with_type (Some t) ts = t ∷ ts
-      with_type None ts = ts
+  types_of (k ∷ ks) = prepend_type k.typed (types_of ks)
 
   abbrev pub normal_at : List (Known T) → ℕ → Option T
   normal_at ks i = option_and_then (λ k. k.normal) (slice_get ks i)

@@ -17,7 +17,7 @@ use Rattle.dh_syntax.specs.TypeRules as rule
 use Rattle.dh_syntax.specs.TypeRules.{Rule}
 use Rattle.dh_syntax.specs.TypeRulesOperators.{operator_ruling}
 use Rattle.dh_syntax.specs.TypeRulesUnions.{record_ruling}
-use Rattle.dh_syntax.specs.TypeRuling.{Ruling, Takes, Forms, Refuses, WithNormal, WithUniverse}
+use Rattle.dh_syntax.specs.TypeRuling.{prepend_type, Ruling, Takes, Forms, Refuses, WithNormal, WithUniverse}
 use Rattle.dh_syntax.specs.TypeViews.{first_of, is_constant, as_forall}
 use Rattle.dh_syntax.specs.Universes.{as_universe, function_check}
 use Rattle.dh_syntax.specs.Views.{bodies}
@@ -55,19 +55,18 @@ module _ {A B : Type 0} (S : Scopes A B) (below : Context A B → Tree A B → I
   is_annotation (ops.Merge true) (suc (suc zero)) = true
   is_annotation op k = false
 
-  -- what follows from the type of the part k, which has none if it is an annotation and the constant `Sort`
-  abbrev pub from_part : Op → ℕ → Tree A B → (Option (Tree A B) → Inference (Tree A B)) → Inference (Tree A B)
-  from_part op k e next =
-      if is_annotation op k && is_constant builtins.Sort e then next None else FromPart k (below context e) (λ t. next (Some t))
+  abbrev pub unless_untyped : Bool → ℕ → Tree A B → (Option (Tree A B) → Inference (Tree A B)) → Inference (Tree A B)
+  unless_untyped true k e next = next None
+  unless_untyped false k e next = FromPart k (below context e) (λ t. next (Some t))
 
-  abbrev pub prepend : Option (Tree A B) → List (Tree A B) → List (Tree A B)
-  prepend (Some t) ts = t ∷ ts
-  prepend None ts = ts
+  -- what follows from the type of the part k; an annotation that is the constant `Sort` has none and is not typed
+  abbrev pub from_part : Op → ℕ → Tree A B → (Option (Tree A B) → Inference (Tree A B)) → Inference (Tree A B)
+  from_part op k e next = unless_untyped (is_annotation op k && is_constant builtins.Sort e) k e next
 
   -- what follows from the types of the parts, the first of which has the number k
   abbrev pub from_parts : Op → ℕ → List (Tree A B) → (List (Tree A B) → Inference (Tree A B)) → Inference (Tree A B)
   from_parts op k [] next = next []
-  from_parts op k (e ∷ es) next = from_part op k e (λ t. from_parts op (suc k) es (λ ts. next (prepend t ts)))
+  from_parts op k (e ∷ es) next = from_part op k e (λ t. from_parts op (suc k) es (λ ts. next (prepend_type t ts)))
 
   -- a node with the parts es by the rule that belongs to it
   abbrev pub grouped : Op → List (Tree A B) → Inference (Tree A B)

@@ -3,8 +3,8 @@ use Rattle.std.specs.Prelude.{◌≡◌, refl, [], ◌∷◌, Some, codes}
 use Rattle.dh_syntax.specs.declared.operators.Builtin.TheVariants as builtins
 use Rattle.dh_syntax.specs.Alpha.{alpha}
 use Rattle.dh_syntax.specs.ExampleTerms.{x, y, var}
-use Rattle.dh_syntax.specs.Forms.{natural, builtin, app, call, lambda, forall, let_in, let_typed, annotation, list_type, record_type}
-use Rattle.dh_syntax.specs.TypingTerms.{type_of, refused, at, at_root, type, kind, sort, bool_type, natural_type, text_type, one, yes', letter, ◌⟶◌, optional_type, plus, with_type, with_field}
+use Rattle.dh_syntax.specs.Forms.{app, call, lambda, forall, let_in, let_typed, list_type}
+use Rattle.dh_syntax.specs.TypingTerms.{type_of, refused, at, at_root, type, kind, sort, bool_type, natural_type, one, yes', ◌⟶◌, optional_type, plus}
 
 -- ---- 1, 2: variables and constants
 

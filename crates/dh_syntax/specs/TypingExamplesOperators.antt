@@ -5,8 +5,8 @@ use Rattle.dh_syntax.specs.declared.operators.BinOp.TheVariants as bins
 use Rattle.dh_syntax.specs.declared.operators.Builtin.TheVariants as builtins
 use Rattle.dh_syntax.specs.Alpha.{alpha}
 use Rattle.dh_syntax.specs.ExampleTerms.{x, y, var}
-use Rattle.dh_syntax.specs.Forms.{natural, integer, text, builtin, operator, if_else, app, call, lambda, forall, let_in, list, empty_list, list_type, some, annotation, record_type}
-use Rattle.dh_syntax.specs.TypingTerms.{type_of, refused, at, at_root, type, kind, sort, bool_type, natural_type, text_type, one, two, yes', letter, ◌⟶◌, optional_type, plus, equivalent, assert, with_type, with_field}
+use Rattle.dh_syntax.specs.Forms.{natural, integer, text, builtin, operator, if_else, lambda, forall, let_in, list, empty_list, list_type, some, annotation}
+use Rattle.dh_syntax.specs.TypingTerms.{type_of, refused, at, at_root, type, kind, sort, bool_type, natural_type, text_type, one, two, yes', letter, optional_type, plus, equivalent, assert}
 
 -- ---- literals
 

@@ -3,11 +3,11 @@
 use Rattle.std.specs.Prelude.{◌≡◌, refl, [], ◌∷◌, Some, codes}
 use Rattle.dh_syntax.specs.declared.operators.BinOp.TheVariants as bins
 use Rattle.dh_syntax.specs.Alpha.{alpha}
-use Rattle.dh_syntax.specs.ExampleTerms.{x, y, var}
-use Rattle.dh_syntax.specs.Forms.{operator, if_else, lambda, forall, let_in, app, list, record_type, record_literal, field, projection, projection_by_type, union, update}
+use Rattle.dh_syntax.specs.ExampleTerms.{x, var}
+use Rattle.dh_syntax.specs.Forms.{operator, lambda, forall, let_in, app, record_type, record_literal, field, projection, projection_by_type, union, update}
 use Rattle.dh_syntax.specs.RowTerms.{a, b, c}
 use Rattle.dh_syntax.specs.Tree.{Term}
-use Rattle.dh_syntax.specs.TypingTerms.{type_of, refused, at, at_root, type, kind, sort, bool_type, natural_type, text_type, one, two, yes', letter, ◌⟶◌, plus, empty, holding, with_type, with_field}
+use Rattle.dh_syntax.specs.TypingTerms.{type_of, refused, at, at_root, type, kind, sort, bool_type, natural_type, text_type, one, yes', letter, plus, empty, holding, with_type, with_field}
 
 -- `{ a : Natural, b : Bool }` and `{ a = 1, b = True }`
 abbrev both_types : Term

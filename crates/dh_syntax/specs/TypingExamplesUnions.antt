@@ -2,10 +2,10 @@
 use Rattle.std.specs.Prelude.{◌≡◌, refl, [], ◌∷◌, Some, codes}
 use Rattle.dh_syntax.specs.Alpha.{alpha}
 use Rattle.dh_syntax.specs.ExampleTerms.{x, y, var}
-use Rattle.dh_syntax.specs.Forms.{natural, app, lambda, forall, list, list_type, some, none, union, field, merge, record_type, record_literal, to_map, to_map_typed}
+use Rattle.dh_syntax.specs.Forms.{app, lambda, forall, list_type, some, none, union, field, merge, record_type, record_literal, to_map, to_map_typed}
 use Rattle.dh_syntax.specs.RowTerms.{a, b}
 use Rattle.dh_syntax.specs.Tree.{Term}
-use Rattle.dh_syntax.specs.TypingTerms.{type_of, refused, at, at_root, type, kind, sort, bool_type, natural_type, text_type, one, two, yes', letter, ◌⟶◌, plus, equivalent, assert, merge_typed, empty, holding, with_type, with_field}
+use Rattle.dh_syntax.specs.TypingTerms.{type_of, refused, at, at_root, type, sort, bool_type, natural_type, text_type, one, two, yes', letter, plus, equivalent, assert, merge_typed, empty, holding, with_type, with_field}
 
 -- ---- `merge`
 

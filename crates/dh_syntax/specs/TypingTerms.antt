@@ -4,10 +4,10 @@ use Rattle.dh_syntax.specs.declared.expressions.Alt.{Alt}
 use Rattle.dh_syntax.specs.declared.expressions.Op.TheVariants as ops
 use Rattle.dh_syntax.specs.declared.operators.BinOp.TheVariants as bins
 use Rattle.dh_syntax.specs.declared.operators.Builtin.TheVariants as builtins
-use Rattle.dh_syntax.specs.Forms.{Fields, builtin, call, forall, natural, bool, plain_text, plain_row, union, operator, record_type, record_literal, list_type}
-use Rattle.dh_syntax.specs.Inference.{Judgment, Has, Ill, IsWide, IsDeep, IsOver, IsShallow}
+use Rattle.dh_syntax.specs.Forms.{builtin, call, forall, natural, bool, plain_text, plain_row, operator, record_type, record_literal}
+use Rattle.dh_syntax.specs.Inference.{Judgment, Has, Ill}
 use Rattle.dh_syntax.specs.NamedTyping.{infer}
-use Rattle.dh_syntax.specs.Tree.{Node, Name, Var, Term}
+use Rattle.dh_syntax.specs.Tree.{Node, Name, Term}
 use Rattle.dh_syntax.specs.TypeRules.{rule_number}
 
 -- ---- what typing comes to

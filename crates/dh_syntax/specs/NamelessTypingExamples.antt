@@ -1,0 +1,55 @@
+-- Typing of nameless expressions: the same types, units, places and rules as with names.
+use Rattle.std.specs.Prelude.{◌≡◌, refl, ℕ, [], ◌∷◌}
+use Rattle.dh_syntax.specs.ExampleTerms.{x, y, var}
+use Rattle.dh_syntax.specs.Forms.{app, lambda, forall, field, union, merge, record_literal}
+use Rattle.dh_syntax.specs.Inference.{Judgment, Has, Ill, judged_within}
+use Rattle.dh_syntax.specs.Nameless.{Core, Bare, to_core, bare}
+use Rattle.dh_syntax.specs.NamelessRuns.{cores, bares}
+use Rattle.dh_syntax.specs.NamelessTyping.{core_scopes, bare_scopes}
+use Rattle.dh_syntax.specs.RowTerms.{a, b}
+use Rattle.dh_syntax.specs.Tree.{Term}
+use Rattle.dh_syntax.specs.TypeRules as rule
+use Rattle.dh_syntax.specs.Typing.{typing}
+use Rattle.dh_syntax.specs.TypingTerms.{type, bool_type, natural_type, one, two, yes', plus, equivalent, assert, empty, holding}
+
+abbrev core_inferred : ℕ → Term → Judgment Core
+core_inferred units e = judged_within cores 100 units (typing core_scopes 100 [] (to_core e))
+
+abbrev bare_inferred : ℕ → Term → Judgment Bare
+bare_inferred units e = judged_within bares 100 units (typing bare_scopes 100 [] (bare e))
+
+-- `λ(x : Type) → λ(y : x) → λ(x : Bool) → y`: the domains (1 + 1 + 1) and the types (3 + 5 + 7)
+abbrev shadowed : Term
+shadowed = lambda x type (lambda y (var x 0) (lambda x bool_type (var y 0)))
+
+abbrev shadowed_type : Term
+shadowed_type = forall x type (forall y (var x 0) (forall x bool_type (var x 1)))
+
+core_shadowed : core_inferred 18 shadowed ≡ Has (to_core shadowed_type) 0
+core_shadowed = refl
+
+bare_shadowed : bare_inferred 18 shadowed ≡ Has (bare shadowed_type) 0
+bare_shadowed = refl
+
+-- `λ(b : Type) → < b : b >.b`: the domain (1), the union (2), and the types `∀(b : b) → < b : b@1 >` (4) and that of the whole (6)
+core_alternative : core_inferred 13 (lambda b type (field (union (holding b ∷ []) (var b 0 ∷ [])) b))
+    ≡ Has (to_core (forall b type (forall b (var b 0) (union (holding b ∷ []) (var b 1 ∷ []))))) 0
+core_alternative = refl
+
+-- `merge { a = 1, b = λ(x : Bool) → 2 } (< a | b : Bool >.b True)`
+abbrev merged : Term
+merged = merge (record_literal ((a, one) ∷ (b, lambda x bool_type two) ∷ [])) (app (field (union (empty a ∷ holding b ∷ []) (bool_type ∷ [])) b) yes')
+
+bare_merged : bare_inferred 17 merged ≡ Has (bare natural_type) 0
+bare_merged = refl
+
+-- a handler whose result mentions its argument
+abbrev dependent : Term
+dependent = merge (record_literal ((b, lambda x bool_type (assert (equivalent (var x 0) (var x 0)))) ∷ [])) (app (field (union (holding b ∷ []) (bool_type ∷ [])) b) yes')
+
+bare_dependent : bare_inferred 100 dependent ≡ Ill [] rule.HandlerResultDepends
+bare_dependent = refl
+
+-- `λ(x : Bool) → x + 1`
+bare_plus : bare_inferred 1 (lambda x bool_type (plus (var x 0) one)) ≡ Ill (1 ∷ []) rule.LeftSide
+bare_plus = refl
