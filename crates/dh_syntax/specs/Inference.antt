@@ -20,7 +20,8 @@ pub data Inference (T : Type 0) : Type 0 where
   FromNormal : T → (T → Inference T) → Inference T
   -- what follows from the type of the part k
   FromPart : ℕ → Inference T → (T → Inference T) → Inference T
-  -- what follows from the type of an expression, none where it has none; it is found with a purse of its own
+  -- what follows from the type of an expression, none where it has none; it is found with a purse of its own, so it
+  -- costs nothing
   Aside : Inference T → (Option T → Inference T) → Inference T
   -- the type of another expression; where that one has none, the rule fails
   Instead : Inference T → Rule → Inference T
@@ -41,12 +42,14 @@ pub data Judgment (T : Type 0) : Type 0 where
   IsShallow : Judgment T
 
 module _ {T : Type 0} where
+  -- what follows a normalising
   abbrev pub after_normal : Answer T → (T → ℕ → Judgment T) → Judgment T
   after_normal (Found e left) next = next e left
   after_normal (Wide left) next = IsWide
   after_normal (Deep left) next = IsDeep
   after_normal Over next = IsOver
 
+  -- what follows the typing of the part k; a place in it is one below k
   abbrev pub after_part : ℕ → Judgment T → (T → ℕ → Judgment T) → Judgment T
   after_part k (Has t left) next = next t left
   after_part k (Ill path rule) next = Ill (k ∷ path) rule
@@ -55,6 +58,7 @@ module _ {T : Type 0} where
   after_part k IsOver next = IsOver
   after_part k IsShallow next = IsShallow
 
+  -- what follows a typing aside
   abbrev pub after_aside : Judgment T → (Option T → Judgment T) → Judgment T
   after_aside (Has t left) next = next (Some t)
   after_aside (Ill path rule) next = next None
@@ -63,6 +67,7 @@ module _ {T : Type 0} where
   after_aside IsOver next = IsOver
   after_aside IsShallow next = IsShallow
 
+  -- the rule in the place of the one that failed, and the expression itself in the place of where it failed
   abbrev pub instead : Judgment T → Rule → Judgment T
   instead (Has t left) rule = Has t left
   instead (Ill path other) rule = Ill [] rule
@@ -82,7 +87,7 @@ module _ {T : Type 0} where
   judged normal purse units (Aside m next) = after_aside (judged normal purse purse m) (λ t. judged normal purse units (next t))
   judged normal purse units (Instead m rule) = instead (judged normal purse units m) rule
 
--- the units that typing an item has, and each typing aside
+-- the units that the typing of an item has, and each typing aside
 abbrev pub whole_purse : ℕ
 whole_purse = 16_777_216
 

@@ -124,6 +124,7 @@ pub mod TypingExamplesOperators
 pub mod TypingExamplesRecords
 pub mod TypingExamplesUnions
 pub mod TypingExamplesUnits
+pub mod TypingFaultExamples
 pub mod TypingLimitExamples
 pub mod TypingTerms
 pub mod Universes

@@ -94,6 +94,7 @@ module _ {A B : Type 0} (S : Scopes A B) where
 
   -- ---- the group
 
+  -- the rule of an operator of this group
   abbrev pub operator : BinOp → Tree A B → Tree A B → Option (Ruling (Tree A B))
   operator bins.Or l r = Some (two_of builtins.Bool l r)
   operator bins.And l r = Some (two_of builtins.Bool l r)

@@ -16,6 +16,7 @@ use Rattle.dh_syntax.specs.TypeViews.{one_of, is_constant, field_type, as_union_
 use Rattle.dh_syntax.specs.Universes.{as_universe, greater, greatest}
 use Rattle.dh_syntax.specs.Views.{as_record_type}
 
+-- one more universe, where all are
 abbrev pub prepend_universe : Option Builtin → Option (List Builtin) → Option (List Builtin)
 prepend_universe (Some c) (Some cs) = Some (c ∷ cs)
 prepend_universe _ _ = None
@@ -34,7 +35,7 @@ module _ {A B : Type 0} where
 
   -- ---- joining record types
 
-  -- the type of the field x joined with another type: where only one of them is there, it is that one
+  -- the type of a field, joined with that of the field of the same label on the other side, if there is one
   abbrev pub joined_field : (Tree A B → Option (Tree A B)) → Tree A B → Option (Tree A B) → Option (Tree A B)
   joined_field join t (Some u) = join u
   joined_field join t None = Some t
@@ -77,6 +78,7 @@ module _ {A B : Type 0} (S : Scopes A B) where
   alternative x u (Some t) = Forms (forall (S.binder x) t (S.up (S.binder x) u))
   alternative x u None = Takes u
 
+  -- the type, where it is there
   abbrev pub taken_or : Option (Tree A B) → Ruling (Tree A B) → Ruling (Tree A B)
   taken_or (Some t) other = Takes t
   taken_or None other = other

@@ -71,6 +71,7 @@ module _ {A B : Type 0} (S : Scopes A B) where
       Forms (map_type v))))
   mapped false v = Forms (map_type v)
 
+  -- a `toMap` of a record with these types of its fields; a record type that has fields is in Type exactly where they all are
   abbrev pub entries : Bool → Fields A B → Ruling (Tree A B)
   entries annotated ((x, v) ∷ fs) =
       require (each (λ f. S.same v f.1) fs) rule.ToMapFieldsDiffer (
@@ -80,12 +81,13 @@ module _ {A B : Type 0} (S : Scopes A B) where
   entries true [] = WithNormal 1 (λ t. require (is_some (as_map_type t)) rule.ToMapAnnotation (Takes t))
   entries false [] = Refuses rule.ToMapEmpty
 
-  -- `toMap e`, with or without annotation; a record type that has fields is in Type exactly where all of these are
+  -- `toMap e`, with or without annotation
   abbrev pub to_map : Bool → Tree A B → Ruling (Tree A B)
   to_map annotated t = given (as_record_type t) rule.ToMapNoRecord (λ fs. entries annotated fs)
 
   -- ---- the group
 
+  -- the rule of an operator of this group
   abbrev pub record_operator : BinOp → Tree A B → Tree A B → Option (Ruling (Tree A B))
   record_operator bins.Prefer l r = Some (prefer S l r)
   record_operator bins.Combine l r = Some (combine S l r)

@@ -47,6 +47,7 @@ pub data Ruled (T : Type 0) : Type 0 where
   No : Rule → Ruled T
 
 module _ {T : Type 0} where
+  -- one more type, if the part has one
   abbrev pub prepend_type : Option T → List T → List T
   prepend_type (Some t) ts = t ∷ ts
   prepend_type None ts = ts
@@ -56,12 +57,14 @@ module _ {T : Type 0} where
   types_of [] = []
   types_of (k ∷ ks) = prepend_type k.typed (types_of ks)
 
+  -- what is known of the part i
   abbrev pub normal_at : List (Known T) → ℕ → Option T
   normal_at ks i = option_and_then (λ k. k.normal) (slice_get ks i)
 
   abbrev pub universe_at : List (Known T) → ℕ → Option Builtin
   universe_at ks i = option_and_then (λ k. k.universe) (slice_get ks i)
 
+  -- what follows from a normal form that is known
   abbrev pub from_known : Option T → (T → Option (Ruled T)) → Option (Ruled T)
   from_known (Some e) next = next e
   from_known None next = None

@@ -66,11 +66,12 @@ module _ {A B : Type 0} where
 
   -- ---- unions
 
-  -- an alternative, with the first of these types if it has one, and then the others
+  -- an alternative, with the first of these types if it has one, and then what the other types are for
   abbrev pub next_alternative : Name → Bool → List (Tree A B) → (List (Tree A B) → Alternatives A B) → Alternatives A B
   next_alternative x true (t ∷ ts) others = (x, Some t) ∷ others ts
   next_alternative x typed ts others = (x, None) ∷ others ts
 
+  -- the alternatives of a union, whose types are these
   abbrev pub alternatives : List Alt → List (Tree A B) → Alternatives A B
   alternatives [] ts = []
   alternatives (a ∷ as') ts = next_alternative a.label a.typed ts (λ us. alternatives as' us)

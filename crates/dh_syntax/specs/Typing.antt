@@ -37,7 +37,8 @@ module _ {T : Type 0} where
 module _ {A B : Type 0} (S : Scopes A B) (below : Context A B → Tree A B → Inference (Tree A B)) (context : Context A B) where
   -- ---- rules on nodes whose parts are typed
 
-  -- what a rule answers, where the parts are these and have these types
+  -- what a rule answers, where the parts are these and have these types (a part that is not there fails as the last rule
+  -- does: no node that has its parts comes to that)
   abbrev pub settled : List (Tree A B) → List (Tree A B) → Ruling (Tree A B) → Inference (Tree A B)
   settled es ts (Takes t) = Gives t
   settled es ts (Forms t) = FromNormal t (λ f. Gives f)
@@ -55,6 +56,7 @@ module _ {A B : Type 0} (S : Scopes A B) (below : Context A B → Tree A B → I
   is_annotation (ops.Merge true) (suc (suc zero)) = true
   is_annotation op k = false
 
+  -- what follows from the type of the part k, by whether it has none
   abbrev pub unless_untyped : Bool → ℕ → Tree A B → (Option (Tree A B) → Inference (Tree A B)) → Inference (Tree A B)
   unless_untyped true k e next = next None
   unless_untyped false k e next = FromPart k (below context e) (λ t. next (Some t))
@@ -129,7 +131,7 @@ module _ {A B : Type 0} (S : Scopes A B) (below : Context A B → Tree A B → I
 
   -- ---- an expression
 
-  -- a node by its form; each other form that no rule above is about has the parts and the rule of its group
+  -- a node by its form; a form without a rule of its own has that of its group, and an import and `?` have none
   abbrev pub node : Op → Row A B → Inference (Tree A B)
   node (ops.Builtin b) r = given_type (S.type_of b) rule.SortHasNoType
   node (ops.Bool b) r = Gives (form.builtin builtins.Bool)
@@ -143,11 +145,13 @@ module _ {A B : Type 0} (S : Scopes A B) (below : Context A B → Tree A B → I
   node (ops.Bin bins.Complete) (kid None t (kid None r end)) = completion t r
   node op r = given_form (bodies r) rule.NotResolved (λ es. grouped op es)
 
+  -- an expression by its form
   abbrev pub expression : Tree A B → Inference (Tree A B)
   expression (Leaf a) = given_type (S.type_in context a) rule.UnboundVariable
   expression (Node op r) = node op r
 
--- typing in a context, with so much depth: an expression stands one deeper than the one for whose type it is typed
+-- The typing of an expression in a context. An expression that is typed for the type of another one stands one deeper than
+-- that one; so much depth is enough or the inference says that it is not.
 abbrev pub typing : {A B : Type 0} → Scopes A B → ℕ → Context A B → Tree A B → Inference (Tree A B)
 typing S zero context e = Deeper
 typing S (suc depth) context e = expression S (typing S depth) context e

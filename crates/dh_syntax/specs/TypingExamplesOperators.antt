@@ -6,6 +6,9 @@ use Rattle.dh_syntax.specs.declared.operators.Builtin.TheVariants as builtins
 use Rattle.dh_syntax.specs.Alpha.{alpha}
 use Rattle.dh_syntax.specs.ExampleTerms.{x, y, var}
 use Rattle.dh_syntax.specs.Forms.{natural, integer, text, builtin, operator, if_else, lambda, forall, let_in, list, empty_list, list_type, some, annotation}
+use Rattle.dh_syntax.specs.Inference.{Ill}
+use Rattle.dh_syntax.specs.NamedTyping.{infer}
+use Rattle.dh_syntax.specs.TypeRules as rule
 use Rattle.dh_syntax.specs.TypingTerms.{type_of, refused, at, at_root, type, kind, sort, bool_type, natural_type, text_type, one, two, yes', letter, optional_type, plus, equivalent, assert}
 
 -- ---- literals
@@ -151,6 +154,10 @@ optional_type_value = refl
 
 optional_kind : refused (some kind) ≡ at_root 18
 optional_kind = refl
+
+-- a type that has no type itself is in no universe: `Some x` where x has the type y, which is not bound
+optional_of_ill : infer 100 100 ((x, var y 0) ∷ []) 0 (some (var x 0)) ≡ Ill [] rule.SomeNotInType
+optional_of_ill = refl
 
 -- ---- 46: texts
 
