@@ -3,16 +3,14 @@ use Rattle.std.specs.Prelude.{ℕ}
 
 -- what fails where a rule fails
 pub data Rule : Type 0 where
-  -- ---- variables, functions and `let`
-
-  -- the variable is not bound
+  -- a variable is not bound
   UnboundVariable : Rule
   -- `Sort` has no type
   SortHasNoType : Rule
   -- λ: the domain's type is no universe; the type of the body is `Sort`
   LambdaDomain : Rule
   LambdaBody : Rule
-  -- ∀: the domain's type, the range's type is no universe
+  -- ∀: the domain's type is no universe; the range's type is none
   ForallDomain : Rule
   ForallRange : Rule
   -- application: the type of the function is no ∀; the type of the argument is not its domain
@@ -20,31 +18,25 @@ pub data Rule : Type 0 where
   WrongArgument : Rule
   -- `let`: the type of the value is not the annotation
   LetAnnotation : Rule
-  -- ---- `if` and the operators on Bool, Natural, Text and List
-
-  -- the condition is no Bool; the type of the branches is not in Type; the types of the branches differ
+  -- `if`: the condition is no Bool; the type of the branches is not in Type; the types of the branches differ
   ConditionNoBool : Rule
   BranchesNotInType : Rule
   BranchesDiffer : Rule
-  -- the left side, the right side has another type than the operator takes
+  -- an operator on Bool, Natural, Text or List: the left side is no such value; the right side is none
   LeftSide : Rule
   RightSide : Rule
-  -- ---- lists and optional values
-
   -- `[] : t`: t is no `List x`
   EmptyListAnnotation : Rule
-  -- the type of the first element is not in Type; that of another one differs
+  -- a list: the type of the first element is not in Type; that of another one differs
   ElementsNotInType : Rule
   ElementsDiffer : Rule
   -- `Some e`: the type of e is not in Type
   SomeNotInType : Rule
-  -- ---- records, record types and unions
-
-  -- the type of a field of a record type is no universe
+  -- a record type: the type of a field's type is no universe
   FieldTypeNoUniverse : Rule
-  -- a field of a record has the type `Sort`
+  -- a record: the type of a field is `Sort`
   FieldOfSort : Rule
-  -- the type of an alternative's type is no universe
+  -- a union: the type of an alternative's type is no universe
   AlternativeNoUniverse : Rule
   -- `e.x`: e is no record with x and no union with x
   NothingToSelect : Rule
@@ -55,38 +47,35 @@ pub data Rule : Type 0 where
   TypedProjectionNoRecord : Rule
   TypedProjectionNoRecordType : Rule
   TypedProjectionDiffers : Rule
-  -- `⫽` and `∧`: the left side, the right side is no record
+  -- `⫽` and `∧`: the left side is no record; the right side is none
   LeftNoRecord : Rule
   RightNoRecord : Rule
   -- `∧`: a common field, at any depth, is not a record on both sides
   FieldsCollide : Rule
-  -- `⩓`: the left side, the right side is no record type; a common field, at any depth, is not a record type on both sides
+  -- `⩓`: the left side is no record type; the right side is none; a common field, at any depth, is not one on both sides
   LeftNoRecordType : Rule
   RightNoRecordType : Rule
   FieldTypesCollide : Rule
-  -- ---- `merge` and `toMap`
-
-  -- the handlers are no record; what is merged is no union and no optional value
+  -- `merge`: the handlers are no record; what is merged is no union and no optional value; the handlers' labels are not
+  -- those of the alternatives
   HandlersNoRecord : Rule
   MergeNoUnion : Rule
-  -- the handlers' labels are not those of the alternatives
   HandlerLabels : Rule
-  -- a handler is no function from its alternative's type; its result mentions its argument; its result differs
+  -- `merge`: a handler is no function from its alternative's type; its result mentions its argument; its result is not
+  -- that of the handlers before
   HandlerNoFunction : Rule
   HandlerResultDepends : Rule
   HandlerResultsDiffer : Rule
-  -- the result is not the annotation; there is neither an alternative nor an annotation
+  -- `merge`: the result is not the annotation; there is neither an alternative nor an annotation
   MergeAnnotation : Rule
   MergeEmpty : Rule
-  -- the argument is no record; its fields' types differ or are not in Type; it has no field and there is no annotation
+  -- `toMap`: the argument is no record; its fields' types differ or are not in Type; it has no field and there is no
+  -- annotation; the annotation is no list of entries of that type
   ToMapNoRecord : Rule
   ToMapFieldsDiffer : Rule
   ToMapEmpty : Rule
-  -- the annotation is no list of entries of that type
   ToMapAnnotation : Rule
-  -- ---- texts, assertions and annotations
-
-  -- an interpolation is no Text
+  -- a text: an interpolation is no Text
   InterpolationNoText : Rule
   -- `assert : t`: the type of t is not Type; t is no `l ≡ r`; l and r are not equivalent
   AssertionNotInType : Rule
@@ -97,8 +86,6 @@ pub data Rule : Type 0 where
   SidesNotInType : Rule
   -- `e : t`: the type of e is not t
   AnnotationDiffers : Rule
-  -- ---- record completion, `with` and what is left of imports
-
   -- `t::r`: the longer expression that it stands for has no type
   CompletionHasNoType : Rule
   -- `with`: what is on the path is no record; the new value has the type `Sort`

@@ -54,8 +54,8 @@ module _ {A B : Type 0} where
 
   -- ---- the type with a path set
 
-  -- the type t, or `{}` where there is none, with the type v at the end of the path; none where what is on the path is
-  -- no record type
+  -- the type t with the type v at the end of the path; a label that is wanting on the way is made, and where what is on
+  -- the way is no record type there is none
   abbrev pub type_with : List Name → Tree A B → Tree A B → Option (Tree A B)
   type_with [] v t = Some v
   type_with (x ∷ path) v t =

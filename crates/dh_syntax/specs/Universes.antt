@@ -30,6 +30,7 @@ rank builtins.Kind = 1
 rank builtins.Sort = 2
 rank _ = 0
 
+-- the greater of two universes
 abbrev pub greater : Builtin → Builtin → Builtin
 greater c d = if lt (rank c) (rank d) then d else c
 
