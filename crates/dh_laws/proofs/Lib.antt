@@ -6,6 +6,8 @@ pub mod FreeIndices
 pub mod FreeShifts
 pub mod Occurrences
 pub mod Renamings
+pub mod RunLimits
+pub mod RunsAlike
 pub mod ShiftPairs
 pub mod Shifts
 pub mod SubstPairs

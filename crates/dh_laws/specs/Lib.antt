@@ -1,5 +1,6 @@
 pub mod Alpha
 pub mod Indices
 pub mod Nameless
+pub mod Runs
 pub mod Shifting
 pub mod Substituting

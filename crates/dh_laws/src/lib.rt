@@ -4,6 +4,7 @@
 mod alpha;
 mod indices;
 mod nameless;
+mod runs;
 mod shifting;
 mod substituting;
 
@@ -19,6 +20,10 @@ pub use nameless::{
     alpha_reads_bare, core_of_put, core_of_shift_up, core_of_subst, forget_of_sub, reading_back,
     ren_is_sub, ren_of_first, ren_of_ren, ren_of_sub, same_is_bare, sub_of_first, sub_of_ren,
     sub_of_sub, sub_of_variables,
+};
+pub use runs::{
+    more_heights, more_units, more_units_plain, one_answer, one_cost, one_normal_form,
+    without_nesting,
 };
 pub use shifting::{
     down_undoes_up, free_after_up, not_free_after_up, shift_down_nesting, shift_up_nesting,
