@@ -54,24 +54,24 @@ put_before c [] false n h = rw n (rw n)
 put_before c (d ∷ ds) true n h = rw n h
 put_before c (d ∷ ds) false n h = rw n (kept_before c d ds (is_up d) (is_up c) refl refl h n)
 
-canon_folder-canonical : (f : Comps) → IsCanonical (canon_folder f)
+pub canon_folder-canonical : (f : Comps) → IsCanonical (canon_folder f)
 canon_folder-canonical [] = refl
 canon_folder-canonical (c ∷ cs) = put_before c (canon_folder cs) (is_dot c) refl (canon_folder-canonical cs)
 
 -- ---- canonical paths
 
-folder-last : (f : Comps) (x : List ℕ) → folder (f ++ x ∷ []) ≡ f
+pub folder-last : (f : Comps) (x : List ℕ) → folder (f ++ x ∷ []) ≡ f
 folder-last [] x = refl
 folder-last (a ∷ []) x = refl
 folder-last (a ∷ b ∷ f) x = ap (λ g. a ∷ g) (folder-last (b ∷ f) x)
 
-file-last : (f : Comps) (x : List ℕ) → file (f ++ x ∷ []) ≡ x ∷ []
+pub file-last : (f : Comps) (x : List ℕ) → file (f ++ x ∷ []) ≡ x ∷ []
 file-last [] x = refl
 file-last (a ∷ []) x = refl
 file-last (a ∷ b ∷ f) x = file-last (b ∷ f) x
 
 -- the file of a path that has a component
-has_file : (c : List ℕ) (cs : Comps) → (x : List ℕ) × (file (c ∷ cs) ≡ x ∷ [])
+pub has_file : (c : List ℕ) (cs : Comps) → (x : List ℕ) × (file (c ∷ cs) ≡ x ∷ [])
 has_file c [] = (c, refl)
 has_file c (d ∷ ds) = has_file d ds
 

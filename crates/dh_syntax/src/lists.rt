@@ -3,6 +3,7 @@ ghost use Rattle.std.specs.Option.{option_copied};
 
 use std::alloc::{AllocError, Global};
 use std::marker::Model;
+use std::mem;
 
 /// A list that contracts see as the list of its elements, and through which a type may hold itself.
 #[derive(Debug, Drop)]
@@ -44,6 +45,17 @@ impl<T> Many<T> {
     {
         let Many { items } = self;
         items
+    }
+
+    /// The list as it was, and leaves the empty one. It takes no memory.
+    pub fn take(&mut self) -> Many<T>
+        ensures value { result ≡ self.old }
+        ensures after { self.new ≡ [] }
+    {
+        let none = Vec::new(*self.items.allocator());
+        Many {
+            items: mem::replace(&mut self.items, none),
+        }
     }
 
     /// The items, as a slice.
