@@ -4,6 +4,9 @@ pub mod Contractions
 pub mod Cores
 pub mod FreeIndices
 pub mod FreeShifts
+pub mod MovedCases
+pub mod MovedRowsLogic
+pub mod MovedViews
 pub mod Occurrences
 pub mod Renamings
 pub mod RunLimits
