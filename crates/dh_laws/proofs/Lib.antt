@@ -5,7 +5,10 @@ pub mod Cores
 pub mod FreeIndices
 pub mod FreeShifts
 pub mod MovedCases
+pub mod MovedFields
+pub mod MovedRowsLists
 pub mod MovedRowsLogic
+pub mod MovedRowsNumbers
 pub mod MovedViews
 pub mod Occurrences
 pub mod Renamings

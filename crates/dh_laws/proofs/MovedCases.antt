@@ -1,8 +1,10 @@
 -- How the cases of a row of the contraction table are put together: a row commutes with a function where its cases do.
 use Rattle.std.specs.Prelude.{◌≡◌, ℕ, Bool, true, false, Option, Some, None, option_map, refl}
 use Rattle.std.proofs.Common.{ap, ◌∙◌}
-use Rattle.dh_syntax.specs.Contraction.{Contraction, Nothing, Gives, TooWide, IfSame, ◌or◌, when, from, on, within}
+use Rattle.dh_syntax.specs.Contraction.{Contraction, Nothing, Gives, TooWide, IfSame, Binders, ◌or◌, when, from, on, within}
+use Rattle.dh_syntax.specs.Moves.{Move, moved}
 use Rattle.dh_syntax.specs.Numbers.{le}
+use Rattle.dh_syntax.specs.Tree.{Tree}
 
 -- what a row answers, with the function on its expressions
 abbrev pub carried : {S T : Type 0} → (S → T) → Contraction S → Contraction T
@@ -49,3 +51,9 @@ module _ {S T : Type 0} (f : S → T) where
       → o' ≡ o → ((x : X) → Commutes f (k' x) (k x)) → Commutes f (on o' k') (on o k)
   on-same-carried o' (Some x) k' k p q = ap (λ y. on y k') p ∙ q x
   on-same-carried o' None k' k p q = ap (λ y. on y k') p
+
+-- What the rows need of binders commutes with a move.
+pub record BindersMove {S A B C D : Type 0} (m : Move S A B C D) (source : Binders A B) (target : Binders C D) : Type 0 where
+  pub put : (s : S) (x : B) (a b : Tree A B) → target.put (m.binder x) (moved m s a) (moved m (m.enter s x) b) ≡ moved m s (source.put x a b)
+  pub successor : (s : S) → target.successor ≡ moved m s source.successor
+  pub cons : (s : S) (t : Tree A B) → target.cons (moved m s t) ≡ moved m s (source.cons t)
