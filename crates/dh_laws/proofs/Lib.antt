@@ -9,6 +9,8 @@ pub mod MovedFields
 pub mod MovedRowsLists
 pub mod MovedRowsLogic
 pub mod MovedRowsNumbers
+pub mod MovedRowsRecords
+pub mod MovedRowsUnions
 pub mod MovedViews
 pub mod Occurrences
 pub mod Renamings
