@@ -4,6 +4,14 @@ pub mod Contractions
 pub mod Cores
 pub mod FreeIndices
 pub mod FreeShifts
+pub mod MovedCases
+pub mod MovedFields
+pub mod MovedRowsLists
+pub mod MovedRowsLogic
+pub mod MovedRowsNumbers
+pub mod MovedRowsRecords
+pub mod MovedRowsUnions
+pub mod MovedViews
 pub mod Occurrences
 pub mod Renamings
 pub mod RunLimits
