@@ -1,6 +1,6 @@
 -- Reading within the limits gives an expression exactly where a derived tree within the limits has the tokens.
-use Rattle.std.proofs.Common.{◌≡◌, ℕ, ◌≤◌, Bool, true, false, List, [], ◌∷◌, Option, Some, None, refl, sym, ◌∙◌, ap, subst, arith, le-leb, leb-true, length}
-use Rattle.std.specs.Prelude.{nat_le, ◌&&◌}
+use Rattle.std.proofs.Common.{◌≡◌, ℕ, ◌≤◌, Bool, true, List, [], ◌∷◌, Option, Some, None, refl, sym, ◌∙◌, ap, subst, arith, le-leb, leb-true, length}
+use Rattle.std.specs.Prelude.{nat_le}
 use Rattle.dh_syntax.proofs.Numbers.{and-true_left, and-true_right}
 use Rattle.dh_syntax.specs.Nesting.{nesting}
 use Rattle.dh_syntax.specs.Tree.{Term}
