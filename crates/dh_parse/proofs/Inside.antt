@@ -1,11 +1,11 @@
 -- The form at the front of a text lies inside the text.
 use Rattle.std.proofs.Common.{◌≡◌, ℕ, suc, ◌<◌, ◌≤◌, ◌^◌, Bool, true, false, List, [], ◌∷◌, take, length, ap, arith, eqb-true, length-take}
 use Rattle.std.specs.Prelude.{◌==◌, nat_lt, ◌&&◌, ◌||◌, codes, if◌then◌else◌}
+use Rattle.dh_syntax.proofs.Numbers.{and-true_right, bytes_eq-true}
 use Rattle.dh_syntax.specs.Numbers.{bytes_eq}
 use Rattle.dh_syntax.specs.declared.operators.BinOp.TheVariants as op
 use Rattle.dh_parse.specs.Fronts.{IsInside}
 use Rattle.dh_parse.specs.SmallTokens.{Front, number, truth, open', close, mark, white, sign, nothing, is_digit, begins_name, goes_on_name, run_length, decimal_value, number_length, number_front, name_front, second, front}
-use Rattle.dh_parse.proofs.Names.{bytes_eq_tells, both_true}
 use Rattle.dh_parse.proofs.Running.{by_test}
 
 run_length_inside : (p : ℕ → Bool) (bs : List ℕ) → run_length p bs ≤ length bs
@@ -27,7 +27,7 @@ name_inside : (bs : List ℕ) → IsInside (name_front bs) bs
 name_inside bs =
     let n = run_length goes_on_name bs in
     let name = take n bs in
-    let whole : (w : List ℕ) → bytes_eq name w ≡ true → length w ≤ length bs = λ w e. let same = ap length (bytes_eq_tells name w e) in let taken = length-take n bs in omega arith in
+    let whole : (w : List ℕ) → bytes_eq name w ≡ true → length w ≤ length bs = λ w e. let same = ap length (bytes_eq-true name w e) in let taken = length-take n bs in omega arith in
     by_test (λ f. IsInside f bs) (bytes_eq name (codes "True")) (sign (truth true) 4) _ (λ e. (omega arith, whole (codes "True") e))
     (λ _. by_test (λ f. IsInside f bs) (bytes_eq name (codes "False")) (sign (truth false) 5) nothing (λ e. (omega arith, whole (codes "False") e)) (λ _. tt))
 
@@ -50,5 +50,5 @@ front_inside (b ∷ bs) =
     (test (b == 41) (sign close 1) _ (λ _. one)
     (test (b == 43) (sign (mark op.Plus) 1) _ (λ _. one)
     (test (b == 42) (sign (mark op.Times) 1) _ (λ _. one)
-    (test (b == 124 && second (b ∷ bs) == 124) (sign (mark op.Or) 2) _ (λ e. two 124 (omega arith) (both_true (b == 124) (second (b ∷ bs) == 124) e).1)
-    (test (b == 38 && second (b ∷ bs) == 38) (sign (mark op.And) 2) nothing (λ e. two 38 (omega arith) (both_true (b == 38) (second (b ∷ bs) == 38) e).1) tt)))))))))
+    (test (b == 124 && second (b ∷ bs) == 124) (sign (mark op.Or) 2) _ (λ e. two 124 (omega arith) (and-true_right (b == 124) (second (b ∷ bs) == 124) e))
+    (test (b == 38 && second (b ∷ bs) == 38) (sign (mark op.And) 2) nothing (λ e. two 38 (omega arith) (and-true_right (b == 38) (second (b ∷ bs) == 38) e)) tt)))))))))

@@ -1,6 +1,7 @@
 -- Reading within the limits gives an expression exactly where a derived tree within the limits has the tokens.
-use Rattle.std.proofs.Common.{◌≡◌, ℕ, ◌≤◌, Bool, true, false, List, [], ◌∷◌, Option, Some, None, refl, sym, ◌∙◌, ap, subst, arith, le-leb, leb-true, length}
-use Rattle.std.specs.Prelude.{nat_le, ◌&&◌}
+use Rattle.std.proofs.Common.{◌≡◌, ℕ, ◌≤◌, Bool, true, List, [], ◌∷◌, Option, Some, None, refl, sym, ◌∙◌, ap, subst, arith, le-leb, leb-true, length}
+use Rattle.std.specs.Prelude.{nat_le}
+use Rattle.dh_syntax.proofs.Numbers.{and-true_left, and-true_right}
 use Rattle.dh_syntax.specs.Nesting.{nesting}
 use Rattle.dh_syntax.specs.Tree.{Term}
 use Rattle.dh_parse.specs.SmallTokens.{Sign, tokens_of}
@@ -19,15 +20,11 @@ pub record IsWithin (s : TermState) : Type 0 where
   pub shallow : deepest s ≤ 500
   pub few_open : open_brackets s ≤ 499
 
-both_true : (a b : Bool) → a && b ≡ true → (a ≡ true) × (b ≡ true)
-both_true true true h = (refl, refl)
-both_true true false h = cc
-both_true false b h = cc
-
 test_tells : (s : TermState) → is_within s ≡ true → IsWithin s
 test_tells s h =
-    let both = both_true (nat_le (deepest s) 500) (nat_le (open_brackets s) 499) h in
-    record { shallow = leb-true (deepest s) 500 both.0; few_open = leb-true (open_brackets s) 499 both.1 }
+    let deep = nat_le (deepest s) 500 in
+    let many = nat_le (open_brackets s) 499 in
+    record { shallow = leb-true (deepest s) 500 (and-true_left deep many h); few_open = leb-true (open_brackets s) 499 (and-true_right deep many h) }
 
 pub tells_within : (s : TermState) → IsWithin s → limited s ≡ s
 tells_within s h = rw (le-leb (deepest s) 500 h.shallow, le-leb (open_brackets s) 499 h.few_open)

@@ -9,7 +9,7 @@ use dh_syntax::{BinOp, Expr, Kid, Kids, Op, ParseFault};
 use std::alloc::{AllocError, Global};
 
 /// How deep an expression may nest.
-pub const MOST_NESTING: u32 = 500;
+const MOST_NESTING: u32 = 500;
 
 /// An expression, and how deep it nests.
 #[derive(Drop)]
