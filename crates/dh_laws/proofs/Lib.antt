@@ -6,11 +6,13 @@ pub mod FreeIndices
 pub mod FreeShifts
 pub mod MovedCases
 pub mod MovedFields
+pub mod MovedPlaces
 pub mod MovedRowsLists
 pub mod MovedRowsLogic
 pub mod MovedRowsNumbers
 pub mod MovedRowsRecords
 pub mod MovedRowsUnions
+pub mod MovedTable
 pub mod MovedViews
 pub mod Occurrences
 pub mod Renamings
