@@ -12,6 +12,7 @@ pub mod MovedRowsLogic
 pub mod MovedRowsNumbers
 pub mod MovedRowsRecords
 pub mod MovedRowsUnions
+pub mod MovedRuns
 pub mod MovedTable
 pub mod MovedViews
 pub mod Occurrences
