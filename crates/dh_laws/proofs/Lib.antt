@@ -15,6 +15,8 @@ pub mod MovedRowsUnions
 pub mod MovedRuns
 pub mod MovedTable
 pub mod MovedViews
+pub mod NamedAnswers
+pub mod NamedRuns
 pub mod Occurrences
 pub mod Renamings
 pub mod RunLimits

@@ -1,5 +1,5 @@
 -- The contraction table on moved expressions: what a row answers is moved too.
-use Rattle.std.specs.Prelude.{◌≡◌, ℕ, pred, Bool, true, false, List, [], ◌∷◌, Some, None, refl}
+use Rattle.std.specs.Prelude.{ℕ, pred, true, false, List, [], ◌∷◌, Some, None, refl}
 use Rattle.std.proofs.Common.{ap}
 use Rattle.dh_syntax.specs.declared.expressions.Op.{Op}
 use Rattle.dh_syntax.specs.declared.expressions.Op.TheVariants as ops
