@@ -6,12 +6,17 @@ pub mod FreeIndices
 pub mod FreeShifts
 pub mod MovedCases
 pub mod MovedFields
+pub mod MovedPlaces
 pub mod MovedRowsLists
 pub mod MovedRowsLogic
 pub mod MovedRowsNumbers
 pub mod MovedRowsRecords
 pub mod MovedRowsUnions
+pub mod MovedRuns
+pub mod MovedTable
 pub mod MovedViews
+pub mod NamedAnswers
+pub mod NamedRuns
 pub mod Occurrences
 pub mod Renamings
 pub mod RunLimits

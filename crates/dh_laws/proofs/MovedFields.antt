@@ -1,6 +1,6 @@
 -- Fields of moved expressions.
-use Rattle.std.specs.Prelude.{◌≡◌, Bool, true, false, if◌then◌else◌, List, [], ◌∷◌, Option, Some, None, option_map, unwrap_or, refl}
-use Rattle.std.proofs.Common.{ap, sym, ◌∙◌}
+use Rattle.std.specs.Prelude.{◌≡◌, Bool, true, false, if◌then◌else◌, List, [], ◌∷◌, Option, Some, None, option_map, refl}
+use Rattle.std.proofs.Common.{ap, ◌∙◌}
 use Rattle.dh_syntax.specs.Forms.{Fields}
 use Rattle.dh_syntax.specs.Labels.{has_others, has_label, field_at, prepend_field, fields_at, fields_among, add_field, all_fields}
 use Rattle.dh_syntax.specs.Moves.{Move, moved}

@@ -1,5 +1,5 @@
 -- The rows of texts and lists, and of the built-in functions on them, on moved expressions.
-use Rattle.std.specs.Prelude.{◌≡◌, ℕ, zero, suc, pred, ◌+◌, nat_le, Bool, List, [], ◌∷◌, ◌++◌, length, reverse, replicate, Option, Some, None, option_map, refl}
+use Rattle.std.specs.Prelude.{◌≡◌, ℕ, zero, suc, pred, List, [], ◌∷◌, ◌++◌, length, reverse, replicate, Option, Some, None, option_map, refl}
 use Rattle.std.proofs.Common.{ap, sym, ◌∙◌}
 use Rattle.std.proofs.lemmas.List.{reverse-append}
 use Rattle.dh_syntax.specs.declared.operators.Builtin.TheVariants as builtins
@@ -13,7 +13,7 @@ use Rattle.dh_syntax.specs.Forms.{TextParts}
 use Rattle.dh_syntax.specs.Moves.{Move, moved}
 use Rattle.dh_syntax.specs.Tree.{Tree}
 use Rattle.dh_syntax.specs.Views.{as_text}
-use Rattle.dh_laws.proofs.MovedCases.{Commutes, BindersMove, gives-carried, or-carried, when-carried, from-carried, within-carried, on-carried, on-same-carried}
+use Rattle.dh_laws.proofs.MovedCases.{Commutes, BindersMove, or-carried, when-carried, from-carried, within-carried, on-carried, on-same-carried}
 use Rattle.dh_laws.proofs.MovedViews.{moved_list, moved_texts, list-moved, text-moved, list_of-moved, as_text-moved, as_plain_text-moved, as_list-moved, is_empty_list-moved}
 
 module _ {S A B C D : Type 0} (m : Move S A B C D) (s : S) where
@@ -41,7 +41,7 @@ module _ {S A B C D : Type 0} (m : Move S A B C D) (s : S) where
 
   splice_first-moved : (p : List ℕ) (ps : List (List ℕ)) (e : Tree A B) (es : List (Tree A B)) (here later : Option (TextParts A B))
       → splice_first p ps (f e) (fs es) (option_map (moved_texts m s) here) (option_map (moved_texts m s) later)
-        ≡ option_map (moved_texts m s) (splice_first p ps e es here later)
+      ≡ option_map (moved_texts m s) (splice_first p ps e es here later)
   splice_first-moved p ps e es (Some t) later = ap (λ x. Some (joined_pieces (joined_pieces (p ∷ []) t.0) ps, x)) (append-moved t.1 es)
   splice_first-moved p ps e es None (Some t) = refl
   splice_first-moved p ps e es None None = refl
@@ -94,8 +94,8 @@ module _ {S A B C D : Type 0} (m : Move S A B C D) (s : S) where
       (or-carried f _ _ _ _ (when-carried f _ _ _ _ (is_empty_list-moved m s r) refl)
       (on-carried f fs _ _ _ _ (as_list-moved m s l) λ es. on-carried f fs _ _ _ _ (as_list-moved m s r) λ ds.
       within-carried f _ _ _ _
-        (let p = length-moved es in let q = length-moved ds in cc)
-        (ap form.list (append-moved es ds) ∙ list-moved m s (es ++ ds))))))
+      (let p = length-moved es in let q = length-moved ds in cc)
+      (ap form.list (append-moved es ds) ∙ list-moved m s (es ++ ds))))))
 
   pub list_build-moved : (source : Binders A B) (target : Binders C D) → BindersMove m source target
       → (ty g : Tree A B) → Commutes f (list_build target (f ty) (f g)) (list_build source ty g)

@@ -1,6 +1,5 @@
 -- The rows of `if`, of the operators on Bool and of those on Natural, on moved expressions.
 use Rattle.std.specs.Prelude.{◌≡◌, ℕ, ◌+◌, ◌*◌, Bool, ◌&&◌, refl}
-use Rattle.std.proofs.Common.{ap, ◌∙◌}
 use Rattle.dh_syntax.specs.ContractLogic.{if_then_else, disjunction, conjunction, equality, inequality}
 use Rattle.dh_syntax.specs.Contraction.{on}
 use Rattle.dh_syntax.specs.ContractNumbers.{natural_literal, sum, product}

@@ -1,5 +1,5 @@
 -- The rows of the built-in functions on Natural and Integer, on moved expressions.
-use Rattle.std.specs.Prelude.{◌≡◌, ℕ, zero, suc, ◌-◌, ◌==◌, ◌∷◌, [], not, pos, neg_ℤ, refl}
+use Rattle.std.specs.Prelude.{◌≡◌, ℕ, zero, suc, ◌∷◌, [], refl}
 use Rattle.std.proofs.Common.{ap}
 use Rattle.dh_syntax.specs.declared.operators.Builtin.TheVariants as builtins
 use Rattle.dh_syntax.specs.BuiltinNumbers.{natural_build, folded_natural, natural_fold, natural_is_zero, natural_even, natural_odd, natural_to_integer, natural_show, natural_subtract, integer_show, integer_negate, integer_clamp}
@@ -52,8 +52,8 @@ module _ {S A B C D : Type 0} (m : Move S A B C D) (s : S) where
       (from-carried f 2 stage _ _
       (or-carried f _ _ _ _ (when-carried f _ _ _ _ (is_literal-moved m s 0 b) refl)
       (or-carried f _ _ _ _
-        (on-same-carried f _ _ _ _ (as_natural-moved m s a) λ k. on-same-carried f _ _ _ _ (as_natural-moved m s b) λ n. refl)
-        refl))))
+      (on-same-carried f _ _ _ _ (as_natural-moved m s a) λ k. on-same-carried f _ _ _ _ (as_natural-moved m s b) λ n. refl)
+      refl))))
 
   -- ---- Integer
 

@@ -44,11 +44,11 @@ module _ {S A B C D : Type 0} (m : Move S A B C D) (s : S) where
       (from-carried f 2 stage _ _
       (or-carried f _ _ _ _ (when-carried f _ _ _ _ (is_empty_record-moved m s r) refl)
       (or-carried f _ _ _ _
-        (on-carried f all _ _ _ _ (as_record-moved m s l) λ fs. on-carried f all _ _ _ _ (as_record-moved m s r) λ gs.
-        let join : Tree A B → Tree A B → Tree A B = λ d e. e in
-        ap (λ hs. Gives (form.record_literal hs)) (all_fields-moved m s join (λ d e. e) (λ d e. refl) fs gs)
-        ∙ ap Gives (record_literal-moved m s (all_fields join fs gs)))
-        refl))))
+      (on-carried f all _ _ _ _ (as_record-moved m s l) λ fs. on-carried f all _ _ _ _ (as_record-moved m s r) λ gs.
+      let join : Tree A B → Tree A B → Tree A B = λ d e. e in
+      ap (λ hs. Gives (form.record_literal hs)) (all_fields-moved m s join (λ d e. e) (λ d e. refl) fs gs)
+      ∙ ap Gives (record_literal-moved m s (all_fields join fs gs)))
+      refl))))
 
   pub combine_types-moved : (stage : ℕ) (l r : Tree A B) → Commutes f (combine_types stage (f l) (f r)) (combine_types stage l r)
   combine_types-moved stage l r =
@@ -100,11 +100,11 @@ module _ {S A B C D : Type 0} (m : Move S A B C D) (s : S) where
   select-moved stage e x =
       from-carried f 1 stage _ _
       (or-carried f _ _ _ _
-        (on-carried f all _ _ _ _ (as_record-moved m s e) λ fs. on-carried f f _ _ _ _ (field_at-moved m s x fs) λ v. refl)
+      (on-carried f all _ _ _ _ (as_record-moved m s e) λ fs. on-carried f f _ _ _ _ (field_at-moved m s x fs) λ v. refl)
       (or-carried f _ _ _ _ (on-carried f f _ _ _ _ (as_projection-moved m s e) λ d. refl)
       (or-carried f _ _ _ _
-        (on-carried f (moved_two m s) _ _ _ _ (as_prefer-moved m s e) λ p. select_preferred-moved x p.0 p.1)
-        (on-carried f (moved_two m s) _ _ _ _ (as_combine-moved m s e) λ p. select_combined-moved x p.0 p.1))))
+      (on-carried f (moved_two m s) _ _ _ _ (as_prefer-moved m s e) λ p. select_preferred-moved x p.0 p.1)
+      (on-carried f (moved_two m s) _ _ _ _ (as_combine-moved m s e) λ p. select_combined-moved x p.0 p.1))))
 
   project_preferred-moved : (xs : List Name) (l r : Tree A B) → Commutes f (project_preferred xs (f l) (f r)) (project_preferred xs l r)
   project_preferred-moved xs l r =
@@ -121,9 +121,9 @@ module _ {S A B C D : Type 0} (m : Move S A B C D) (s : S) where
       or-carried f _ _ _ _ (when-carried f _ _ _ _ refl refl)
       (from-carried f 1 stage _ _
       (or-carried f _ _ _ _
-        (on-carried f all _ _ _ _ (as_record-moved m s e) λ fs. on-carried f all _ _ _ _ (fields_at-moved m s xs fs) λ gs. ap Gives (record_literal-moved m s gs))
+      (on-carried f all _ _ _ _ (as_record-moved m s e) λ fs. on-carried f all _ _ _ _ (fields_at-moved m s xs fs) λ gs. ap Gives (record_literal-moved m s gs))
       (or-carried f _ _ _ _ (on-carried f f _ _ _ _ (as_projection-moved m s e) λ d. refl)
-        (on-carried f (moved_two m s) _ _ _ _ (as_prefer-moved m s e) λ p. project_preferred-moved xs p.0 p.1))))
+      (on-carried f (moved_two m s) _ _ _ _ (as_prefer-moved m s e) λ p. project_preferred-moved xs p.0 p.1))))
 
   pub project_type-moved : (stage : ℕ) (e t : Tree A B) → Commutes f (project_type stage (f e) (f t)) (project_type stage e t)
   project_type-moved stage e t =

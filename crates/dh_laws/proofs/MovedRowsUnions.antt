@@ -1,11 +1,10 @@
 -- The rows of `merge` and of `toMap`, on moved expressions.
-use Rattle.std.specs.Prelude.{◌≡◌, ℕ, [], ◌∷◌, List, Option, Some, None, option_map, map, codes, refl}
+use Rattle.std.specs.Prelude.{◌≡◌, ℕ, [], ◌∷◌, Option, Some, None, option_map, map, codes, refl}
 use Rattle.std.proofs.Common.{ap, ◌∙◌}
 use Rattle.dh_syntax.specs.Contraction.{Gives}
 use Rattle.dh_syntax.specs.ContractUnions.{handled, handler, merge_with, merge, map_entry, to_map_of, to_map}
 use Rattle.dh_syntax.specs.Forms as form
 use Rattle.dh_syntax.specs.Forms.{Fields}
-use Rattle.dh_syntax.specs.Labels.{field_at}
 use Rattle.dh_syntax.specs.Moves.{Move, moved}
 use Rattle.dh_syntax.specs.Tree.{Tree, Name}
 use Rattle.dh_laws.proofs.MovedCases.{Commutes, or-carried, when-carried, from-carried, on-carried, on-same-carried}
@@ -31,11 +30,11 @@ module _ {S A B C D : Type 0} (m : Move S A B C D) (s : S) where
   merge_with-moved handlers u =
       or-carried f _ _ _ _ (on-carried f f _ _ _ _ (as_some-moved m s u) λ a. handled-moved handlers (codes "Some") a)
       (or-carried f _ _ _ _
-        (on-carried f (moved_two m s) _ _ _ _ (as_app-moved m s u) λ p.
-        or-carried f _ _ _ _
-          (on-same-carried f _ _ _ _ (as_alternative-moved m s p.0) λ q. handled-moved handlers q.0 p.1)
-          (when-carried f _ _ _ _ (is_none-moved m s p.0) (handler-moved handlers (codes "None"))))
-        (on-same-carried f _ _ _ _ (as_alternative-moved m s u) λ q. when-carried f _ _ _ _ refl (handler-moved handlers q.0)))
+      (on-carried f (moved_two m s) _ _ _ _ (as_app-moved m s u) λ p.
+      or-carried f _ _ _ _
+      (on-same-carried f _ _ _ _ (as_alternative-moved m s p.0) λ q. handled-moved handlers q.0 p.1)
+      (when-carried f _ _ _ _ (is_none-moved m s p.0) (handler-moved handlers (codes "None"))))
+      (on-same-carried f _ _ _ _ (as_alternative-moved m s u) λ q. when-carried f _ _ _ _ refl (handler-moved handlers q.0)))
 
   pub merge-moved : (stage : ℕ) (t u : Tree A B) → Commutes f (merge stage (f t) (f u)) (merge stage t u)
   merge-moved stage t u = from-carried f 2 stage _ _ (on-carried f all _ _ _ _ (as_record-moved m s t) λ handlers. merge_with-moved handlers u)

@@ -1,5 +1,5 @@
 -- Forms and views of moved expressions: what is moved has the same form, with moved parts.
-use Rattle.std.specs.Prelude.{◌≡◌, ℕ, Bool, true, false, ◌&&◌, List, [], ◌∷◌, Option, Some, None, option_map, refl}
+use Rattle.std.specs.Prelude.{◌≡◌, ℕ, List, [], ◌∷◌, Option, Some, None, option_map, refl}
 use Rattle.std.proofs.Common.{ap, ◌∙◌}
 use Rattle.dh_syntax.specs.declared.expressions.Op.TheVariants as ops
 use Rattle.dh_syntax.specs.declared.operators.BinOp.TheVariants as bins

@@ -2,5 +2,6 @@ pub mod Alpha
 pub mod Indices
 pub mod Nameless
 pub mod Runs
+pub mod SameRuns
 pub mod Shifting
 pub mod Substituting

@@ -5,6 +5,7 @@ mod alpha;
 mod indices;
 mod nameless;
 mod runs;
+mod same_runs;
 mod shifting;
 mod substituting;
 
@@ -25,6 +26,7 @@ pub use runs::{
     more_heights, more_units, more_units_plain, one_answer, one_cost, one_normal_form,
     without_nesting,
 };
+pub use same_runs::{costs_of_same, normal_forms_of_same, runs_of_same};
 pub use shifting::{
     down_undoes_up, free_after_up, not_free_after_up, shift_down_nesting, shift_up_nesting,
     shifts_exchange, up_undoes_down,
