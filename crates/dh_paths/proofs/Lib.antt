@@ -1,1 +1,4 @@
+pub mod Escaping
+pub mod Origins
 pub mod Paths
+pub mod Routes

@@ -75,8 +75,8 @@ other_put xs ys at top c w p e h dot g =
     let small : top - 1 < length (set xs at w) = simp length-set (omega (arith, p.0, p.1)) in
     let back : (top - 1) + 1 ≡ top = omega (arith, p.0) in
     let moved : drop (top - 1) ys ≡ get_or xs at [] ∷ drop top xs =
-      ap (drop (top - 1)) e ∙ drop-set (set xs at w) (top - 1) (get_or xs at []) small
-      ∙ ap (λ n. get_or xs at [] ∷ drop n (set xs at w)) back ∙ ap (λ l. get_or xs at [] ∷ l) (drop-set-lt top xs at w p.0)
+    ap (drop (top - 1)) e ∙ drop-set (set xs at w) (top - 1) (get_or xs at []) small
+    ∙ ap (λ n. get_or xs at [] ∷ drop n (set xs at w)) back ∙ ap (λ l. get_or xs at [] ∷ l) (drop-set-lt top xs at w p.0)
     in moved ∙ rw (placed xs at top c p) (other_before c (drop top xs) h long dot g)
 
 -- What stands behind a component may be made canonical first.
@@ -109,7 +109,7 @@ pub canon_path_start : (xs : Comps) → drop (length xs - 1) xs ≡ canon_path (
 canon_path_start [] = refl
 canon_path_start (c ∷ cs) =
     let one : drop (length (c ∷ cs) - 1) (c ∷ cs) ≡ get_or (c ∷ cs) (length (c ∷ cs) - 1) [] ∷ [] =
-      drop_more (c ∷ cs) (length (c ∷ cs) - 1) [] (omega arith) ∙ ap (λ l. get_or (c ∷ cs) (length (c ∷ cs) - 1) [] ∷ l) (drop_all (length (c ∷ cs) - 1 + 1) (c ∷ cs) (omega arith))
+    drop_more (c ∷ cs) (length (c ∷ cs) - 1) [] (omega arith) ∙ ap (λ l. get_or (c ∷ cs) (length (c ∷ cs) - 1) [] ∷ l) (drop_all (length (c ∷ cs) - 1 + 1) (c ∷ cs) (omega arith))
     in rw one refl
 
 pub take_less : (xs ys : Comps) (n m : ℕ) → n ≤ m → take m xs ≡ take m ys → take n xs ≡ take n ys

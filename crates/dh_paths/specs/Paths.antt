@@ -1,5 +1,5 @@
 -- What the functions on paths tell one another.
-use Rattle.std.specs.Prelude.{ℕ, Bool, true, false, List, [], ◌∷◌, codes}
+use Rattle.std.specs.Prelude.{Bool, true, false, [], ◌∷◌, codes}
 use Rattle.dh_syntax.specs.Locations.{Comps, is_up}
 
 -- whether the folder of a path begins with `..`

@@ -1,6 +1,5 @@
-use Rattle.std.proofs.Common.{◌≡◌, sym, ◌∙◌, ap, arith, [], length, ◌<◌, ◌&&◌, not, false, true, ⊎_elim, refl}
+use Rattle.std.proofs.Common.{◌≡◌, sym, ◌∙◌, ap, arith, [], ◌&&◌, not, false, refl}
 use Rattle.dh_syntax.specs.Locations.{is_up}
-use Rattle.dh_paths.specs.Paths.{goes_up}
 use Rattle.dh_paths.proofs.Paths.{dot_put, name_put, other_put, tail_goes_up}
 use Rattle.dh_paths.proofs.canonical.put_before.Goals as goal
 use Rattle.dh_paths.proofs.canonical.put_before.Goals.{else-goes_up-via-then-goes_up+else-not-is_up, else-goes_up-via-else-goes_up}
@@ -19,10 +18,10 @@ pub returns-clause-path : goal.returns-clause-path
 returns-clause-path c =
     let up = tail_goes_up c.args.comps.now.items c.deref.result.now c.args.top c.goes_up.result c.deref.ensures.value c.goes_up.ensures.value in
     let stays : (c.goes_up.result && not (is_up c.index-comp.result.now)) ≡ false =
-      elim c.else-goes_up.branch [
-        else-goes_up-via-then-goes_up+else-not-is_up w ↦ rw (w.if-goes_up.true, sym w.is_up.ensures, w.if-not-is_up.false) refl
+    elim c.else-goes_up.branch [
+      | else-goes_up-via-then-goes_up+else-not-is_up w ↦ rw (w.if-goes_up.true, sym w.is_up.ensures, w.if-not-is_up.false) refl
       | else-goes_up-via-else-goes_up w ↦ rw w.if-goes_up.false refl
-      ]
+    ]
     in
     other_put c.args.comps.now.items c.swap.new.self.items c.args.at c.args.top c.index-comp.result.now _ (c.requires.before, omega arith, c.index-comp.ensures) (c.swap.ensures.by_index.3 []) c.requires.canonical
     (sym c.is_dot.ensures ∙ c.if-is_dot.false) (ap (λ b. b && not (is_up c.index-comp.result.now)) up ∙ stays)
