@@ -1,0 +1,4 @@
+pub mod Below
+pub mod Lifting
+pub mod Outer
+pub mod Steps

@@ -1,0 +1,12 @@
+//! Shifting, substitution, free variables, α-normal forms and sameness of expressions.
+#![tactic(auto)]
+
+mod frees;
+mod lifts;
+mod names;
+mod shifts;
+mod substs;
+
+pub use frees::free;
+pub use shifts::shift;
+pub use substs::subst;
