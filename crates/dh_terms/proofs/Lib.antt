@@ -1,3 +1,4 @@
+pub mod Blankings
 pub mod Capped
 pub mod FreeRows
 pub mod KidItems
