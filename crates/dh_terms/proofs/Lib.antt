@@ -1,0 +1,10 @@
+pub mod Blankings
+pub mod Capped
+pub mod FreeRows
+pub mod KidItems
+pub mod Liftings
+pub mod MoveRows
+pub mod Outer
+pub mod Shapes
+pub mod ShiftRows
+pub mod SubstRows

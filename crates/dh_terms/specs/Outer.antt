@@ -1,0 +1,15 @@
+-- The binders above a place in an expression.
+use Rattle.std.specs.Prelude.{List, [], ◌∷◌}
+use Rattle.dh_syntax.specs.Tree.{Name}
+use Rattle.dh_terms.specs.declared.names.Outer.{Outer}
+use Rattle.dh_terms.specs.declared.names.Outer.TheOpen as level
+use Rattle.dh_terms.specs.declared.names.Outer.TheOpen.{Outer-F}
+use Rattle.dh_terms.specs.declared.names.Outer.TheFolds.{fold-Outer}
+
+abbrev pub outer_step : Outer-F (List Name) → List Name
+outer_step level.Top = []
+outer_step (level.Below y ys) = y.now ∷ ys.now
+
+-- their names, the nearest one first
+unfoldable pub outer : Outer → List Name
+outer = fold-Outer (List Name) outer_step
