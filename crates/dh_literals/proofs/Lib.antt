@@ -1,1 +1,2 @@
+pub mod EscapesRead
 pub mod NumbersRead

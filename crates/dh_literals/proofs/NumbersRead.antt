@@ -29,7 +29,7 @@ all_digits radix p digit [] h = tt
 all_digits radix p digit (c ∷ cs) h = all_digits-by radix c (prefix_len p cs) cs (p c) (digit c) (all_digits radix p digit cs) h
 
 -- a numeral begins with no sign
-no_plus : (radix : ℕ) (ds : List ℕ) → radix ≤ 16 → IsNumeral radix ds → get_or ds 0 0 ≡ 43 → ⊥
+pub no_plus : (radix : ℕ) (ds : List ℕ) → radix ≤ 16 → IsNumeral radix ds → get_or ds 0 0 ≡ 43 → ⊥
 no_plus radix [] low h e = absurd (omega (arith, h.0))
 no_plus radix (c ∷ cs) low h e = let below : digit_value c < radix = h.1.0 in grind (arith, nat_tests)
 

@@ -1,8 +1,10 @@
 //! Literals: numbers and texts as they are written, read and printed.
 #![tactic(auto)]
 
+mod escapes;
 mod faults;
 mod numbers;
 
+pub use escapes::unescape;
 pub use faults::LitFault;
 pub use numbers::{read_integer, read_natural, write_integer, write_natural};
