@@ -1,2 +1,4 @@
 pub mod EscapesRead
 pub mod NumbersRead
+pub mod Stretching
+pub mod Unescaping
