@@ -1,4 +1,5 @@
 pub mod EscapesRead
+pub mod EscapesWritten
 pub mod NumbersRead
 pub mod Stretching
 pub mod Unescaping

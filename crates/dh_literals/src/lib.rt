@@ -2,9 +2,11 @@
 #![tactic(auto)]
 
 mod escapes;
+mod escaping;
 mod faults;
 mod numbers;
 
 pub use escapes::unescape;
+pub use escaping::escape;
 pub use faults::LitFault;
 pub use numbers::{read_integer, read_natural, write_integer, write_natural};
