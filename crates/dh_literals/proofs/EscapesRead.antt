@@ -17,20 +17,8 @@ use Rattle.dh_syntax.specs.Literals.{escaped, numbered, unicode_escape}
 use Rattle.dh_syntax.specs.Stretches.{Character, Reads, Faults}
 use Rattle.dh_syntax.proofs.Numbers.{and-true_right}
 use Rattle.dh_literals.specs.Escape.{IsNamed, IsRead}
+use Rattle.dh_literals.proofs.Fronts.{taken, length-taken, front_passes, passing_boundary}
 use Rattle.dh_literals.proofs.NumbersRead.{hexadecimal_digit, all_digits, no_plus}
-
--- the front of a list that passes a test is not shorter than any part of it
-taken-by : (passes : Bool) (m n k : ℕ) → suc n ≤ cond passes (1 + k) 0 → (n ≤ k → m ≡ n) → cond passes (1 + m) 0 ≡ suc n
-taken-by true m n k h more = let e = more (omega (arith, h)) in omega arith
-taken-by false m n k h more = absurd (omega (arith, h))
-
-taken : (p : ℕ → Bool) (n : ℕ) (bs : List ℕ) → n ≤ prefix_len p bs → prefix_len p (take n bs) ≡ n
-taken p zero bs h = refl
-taken p (suc n) [] h = absurd (omega (arith, h))
-taken p (suc n) (b ∷ bs) h = taken-by (p b) (prefix_len p (take n bs)) n (prefix_len p bs) h (taken p n bs)
-
-length-taken : (p : ℕ → Bool) (n : ℕ) (bs : List ℕ) → n ≤ prefix_len p bs → length (take n bs) ≡ n
-length-taken p n bs h = let e = prefix_len-le-length p bs in length-take-le n bs (omega (arith, e, h))
 
 -- so many hexadecimal digits at the front are a numeral
 taken_numeral : (n : ℕ) (bs : List ℕ) → 0 < n → n ≤ prefix_len is_ascii_hexdigit bs → IsNumeral 16 (take n bs)
@@ -41,18 +29,9 @@ taken_numeral n bs some h =
 hexadecimal_ascii : (c : ℕ) → is_ascii_hexdigit c ≡ true → c < 128
 hexadecimal_ascii c h = grind (arith, nat_tests)
 
--- what follows an ASCII character is a text
-pub text_after : (c : ℕ) (bs ds : List ℕ) → c < 128 → IsUtf8 bs → bs ≡ c ∷ ds → IsUtf8 ds
-text_after c bs ds ascii u e = IsUtf8-past_char bs ds c u (e ∙ ap (λ l. l ++ ds) (sym (encode_ascii c ascii)))
-
 -- after hexadecimal digits a text may be cut
 pub hexadecimal_boundary : (n : ℕ) (bs : List ℕ) → IsUtf8 bs → n ≤ prefix_len is_ascii_hexdigit bs → IsCharBoundary bs n
-hexadecimal_boundary zero bs u h = IsCharBoundary-start bs u
-hexadecimal_boundary (suc n) bs u h =
-    let digit : is_ascii_hexdigit (get_or bs n 0) ≡ true = prefix_len_passes is_ascii_hexdigit bs n 0 (omega (arith, h)) in
-    let le = prefix_len-le-length is_ascii_hexdigit bs in
-    let P : ℕ → Type 0 = λ k. IsCharBoundary bs k in
-    subst P (add-one n) (IsCharBoundary-after_ascii bs n u (omega (arith, le, h)) (hexadecimal_ascii (get_or bs n 0) digit))
+hexadecimal_boundary n bs u h = passing_boundary is_ascii_hexdigit hexadecimal_ascii n bs u h
 
 -- a number of more than 32 bits is no character's
 wide_unnamed : (n : ℕ) → ¬ (n < 2 ^ 32) → (is_scalar n && not (is_noncharacter n)) ≡ false
@@ -90,24 +69,6 @@ either_form braced four n k m = if braced then numbered n k else if four then nu
 
 unicode_escape-by : (bs : List ℕ) (braced four : Bool) → (first bs == byte "{" && ltb 0 (prefix_len is_ascii_hexdigit (drop 1 bs)) && slice_index bs (1 + prefix_len is_ascii_hexdigit (drop 1 bs)) == byte "}") ≡ braced → (length (take 4 bs) == 4 && list_all is_ascii_hexdigit (take 4 bs)) ≡ four → unicode_escape bs ≡ either_form braced four (digits_value 16 (take (prefix_len is_ascii_hexdigit (drop 1 bs)) (drop 1 bs))) (4 + prefix_len is_ascii_hexdigit (drop 1 bs)) (digits_value 16 (take 4 bs))
 unicode_escape-by bs braced four e f = cc
-
--- so many elements at the front pass where the longest front that passes is not shorter
-front_passes-by : (passes rest : Bool) (m n k : ℕ) → (eqb m n && rest) ≡ leb n k → (eqb (suc m) (suc n) && (passes && rest)) ≡ leb (suc n) (cond passes (1 + k) 0)
-front_passes-by true true m n k h = grind (arith, nat_tests)
-front_passes-by true false m n k h = grind (arith, nat_tests)
-front_passes-by false true m n k h = grind (arith, nat_tests)
-front_passes-by false false m n k h = grind (arith, nat_tests)
-
-zero_le : (n : ℕ) → true ≡ leb 0 n
-zero_le n = grind (arith, nat_tests)
-
-none_passes : (n : ℕ) → (eqb 0 (suc n) && true) ≡ leb (suc n) 0
-none_passes n = grind (arith, nat_tests)
-
-front_passes : (p : ℕ → Bool) (n : ℕ) (bs : List ℕ) → (length (take n bs) == n && list_all p (take n bs)) ≡ leb n (prefix_len p bs)
-front_passes p zero bs = zero_le (prefix_len p bs)
-front_passes p (suc n) [] = none_passes n
-front_passes p (suc n) (b ∷ bs) = front_passes-by (p b) (list_all p (take n bs)) (length (take n bs)) n (prefix_len p bs) (front_passes p n bs)
 
 -- four digits
 four_form : (bs : List ℕ) → (first bs == byte "{") ≡ false → unicode_escape bs ≡ (if leb 4 (prefix_len is_ascii_hexdigit bs) then numbered (digits_value 16 (take 4 bs)) 6 else Faults)

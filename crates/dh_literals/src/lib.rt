@@ -4,9 +4,11 @@
 mod escapes;
 mod escaping;
 mod faults;
+mod indentation;
 mod numbers;
 
 pub use escapes::unescape;
 pub use escaping::escape;
 pub use faults::LitFault;
+pub use indentation::unindent;
 pub use numbers::{read_integer, read_natural, write_integer, write_natural};

@@ -1,6 +1,7 @@
 use Rattle.std.proofs.Common.{Some, sym, ◌∙◌, lit<, lit≤, arith}
 use Rattle.std.proofs.lemmas.Str.Pattern.{starts_char, strip_prefix_char}
-use Rattle.dh_literals.proofs.EscapesRead.{text_after, hexadecimal_boundary, four_too_few, four_none, four_some, braced_open, braced_some, no_digits, closed_by}
+use Rattle.dh_literals.proofs.Fronts.{text_after}
+use Rattle.dh_literals.proofs.EscapesRead.{hexadecimal_boundary, four_too_few, four_none, four_some, braced_open, braced_some, no_digits, closed_by}
 use Rattle.dh_literals.proofs.escapes.read_unicode_escape.Goals as goal
 use Rattle.dh_literals.proofs.escapes.read_unicode_escape.Goals.{then-count-eq0-via-then-count-eq0, then-count-eq0-via-else-count-eq0+then-not-starts_with}
 
