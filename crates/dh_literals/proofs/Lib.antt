@@ -1,0 +1,9 @@
+pub mod EscapesRead
+pub mod EscapesWritten
+pub mod Fronts
+pub mod Lines
+pub mod LinesShared
+pub mod NumbersRead
+pub mod SplitParts
+pub mod Stretching
+pub mod Unescaping

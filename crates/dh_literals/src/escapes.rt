@@ -1,0 +1,88 @@
+ghost use Rattle.std.specs.Prelude.{◌≡◌, ◌<◌, ◌≤◌, take, Ok, IfOk, IfErr};
+ghost use Rattle.std.specs.Char.{is_ascii_hexdigit};
+ghost use Rattle.std.specs.List.{prefix_len};
+ghost use Rattle.std.specs.Str.Parse.{digits_value};
+ghost use Rattle.dh_syntax.specs.Literals.{escaped, unicode_escape, unescape};
+ghost use Rattle.dh_literals.specs.Escape.{IsFault, IsNamed, IsRead};
+
+use crate::faults::LitFault;
+use dh_syntax::Piece;
+use std::alloc::Global;
+
+/// A text that stands between double quotes, with its escapes read.
+pub fn unescape(alloc: Global, inner: &str) -> Result<Piece, LitFault>
+    ensures ok { IfOk result (λ piece. unescape inner.now ≡ Ok piece) }
+    ensures fault { IfErr result (IsFault (unescape inner.now)) }
+{
+    let mut text = String::new(alloc);
+    let mut rest = inner;
+    while let Some((plain, escape)) = rest.split_once('\\') {
+        text.push_str(plain)?;
+        let Some((c, len)) = read_escape(escape) else {
+            return Err(LitFault::BadEscape(inner.len() - escape.len() - 1));
+        };
+        text.push(c)?;
+        rest = &escape[len..];
+    }
+    text.push_str(rest)?;
+    Ok(Piece::of(text))
+}
+
+// The character of an escape whose backslash stands before the text, and how many bytes of the text it takes.
+fn read_escape(text: &str) -> Option<(char, usize)>
+    ensures { IsRead (escaped text.now) 1 text.now result }
+{
+    match text.as_bytes().first()? {
+        b'"' => Some(('"', 1)),
+        b'$' => Some(('$', 1)),
+        b'\\' => Some(('\\', 1)),
+        b'/' => Some(('/', 1)),
+        b'b' => Some(('\u{8}', 1)),
+        b'f' => Some(('\u{c}', 1)),
+        b'n' => Some(('\n', 1)),
+        b'r' => Some(('\r', 1)),
+        b't' => Some(('\t', 1)),
+        b'u' => {
+            let (c, len) = read_unicode_escape(&text[1..])?;
+            Some((c, len + 1))
+        }
+        _ => None,
+    }
+}
+
+// The same where `\u` stands before the text.
+fn read_unicode_escape(text: &str) -> Option<(char, usize)>
+    ensures { IsRead (unicode_escape text.now) 2 text.now result }
+{
+    let Some(braced) = text.strip_prefix('{') else {
+        if hexadecimal_len(text) < 4 {
+            return None;
+        }
+        return Some((named(text, 4)?, 4));
+    };
+    let count = hexadecimal_len(braced);
+    if count == 0 || !braced[count..].starts_with('}') {
+        return None;
+    }
+    Some((named(braced, count)?, count + 2))
+}
+
+// How many hexadecimal digits the text begins with.
+fn hexadecimal_len(text: &str) -> usize
+    ensures { result ≡ prefix_len is_ascii_hexdigit text.now }
+{
+    text.bytes().take_while(|b| b.is_ascii_hexdigit()).count()
+}
+
+// The character whose number so many hexadecimal digits at the front write.
+fn named(text: &str, count: usize) -> Option<char>
+    requires some { 0 < count }
+    requires digits { count ≤ prefix_len is_ascii_hexdigit text.now }
+    ensures { IsNamed (digits_value 16 (take count text.now)) result }
+{
+    let code = u32::from_str_radix(&text[..count], 16).ok()?;
+    if code % 0x1_0000 >= 0xFFFE {
+        return None;
+    }
+    char::from_u32(code)
+}

@@ -1,0 +1,34 @@
+ghost use Rattle.std.specs.Prelude.{◌≡◌, ◌++◌, string_bytes, encode_utf8, IfOk, OnOk};
+ghost use Rattle.dh_syntax.specs.Literals.{escape};
+
+use dh_syntax::Piece;
+use std::alloc::{AllocError, Global};
+
+/// A text as it is printed between double quotes.
+pub fn escape(alloc: Global, piece: &Piece) -> Result<Piece, AllocError>
+    ensures { IfOk result (λ p. p ≡ escape piece.now) }
+{
+    let mut text = String::new(alloc);
+    for c in piece.as_str().chars() {
+        push_escaped(&mut text, c)?;
+    }
+    Ok(Piece::of(text))
+}
+
+fn push_escaped(text: &mut String, c: char) -> Result<(), AllocError>
+    ensures { OnOk result (string_bytes text.new
+        ≡ string_bytes text.old ++ escape (encode_utf8 c)) }
+{
+    match c {
+        '"' => text.push_str("\\\""),
+        '\\' => text.push_str("\\\\"),
+        '$' => text.push_str("\\$"),
+        '\u{8}' => text.push_str("\\b"),
+        '\u{c}' => text.push_str("\\f"),
+        '\n' => text.push_str("\\n"),
+        '\r' => text.push_str("\\r"),
+        '\t' => text.push_str("\\t"),
+        _ if c < ' ' => write!(text, "\\u00{:02X}", c as u8),
+        _ => text.push(c),
+    }
+}

@@ -1,0 +1,14 @@
+//! Literals: numbers and texts as they are written, read and printed.
+#![tactic(auto)]
+
+mod escapes;
+mod escaping;
+mod faults;
+mod indentation;
+mod numbers;
+
+pub use escapes::unescape;
+pub use escaping::escape;
+pub use faults::LitFault;
+pub use indentation::unindent;
+pub use numbers::{read_integer, read_natural, write_integer, write_natural};
