@@ -1,0 +1,3 @@
+pub mod CodeSteps
+pub mod GapSteps
+pub mod Runs

@@ -1,0 +1,18 @@
+-- Forms of the program as forms of the definition.
+use Rattle.std.specs.Prelude.{Option, option_map}
+use Rattle.dh_syntax.specs.LexForms as forms
+use Rattle.dh_tokens.specs.declared.forms.Form.{Form}
+use Rattle.dh_tokens.specs.declared.forms.Found.{Found}
+use Rattle.dh_tokens.specs.declared.forms.Found.TheVariants as found
+
+abbrev pub found_of : Found → forms.Found
+found_of found.White = forms.White
+found_of found.SkippedLine = forms.SkippedLine
+found_of (found.Is kind) = forms.Is kind
+found_of found.LeftOut = forms.LeftOut
+found_of found.TooWide = forms.TooWide
+found_of (found.Faulty n) = forms.Faulty n
+found_of found.Unclosed = forms.Unclosed
+
+abbrev pub form_of : Form → forms.Form
+form_of f = record { found = found_of f.found; len = f.len }
