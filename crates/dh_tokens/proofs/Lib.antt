@@ -1,3 +1,5 @@
 pub mod CodeSteps
+pub mod FormLaws
 pub mod GapSteps
+pub mod NameLaws
 pub mod Runs

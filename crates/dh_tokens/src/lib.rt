@@ -6,5 +6,6 @@ mod classes;
 mod faults;
 mod forms;
 mod gaps;
+mod names;
 
 pub use faults::LexFault;
