@@ -1,0 +1,51 @@
+ghost use Rattle.std.specs.Prelude.{◌≡◌, IsTrue, IfOk};
+ghost use Rattle.dh_syntax.specs.Numerals.{is_natural, is_integer, read_natural, read_integer, write_natural, write_integer};
+
+use dh_syntax::Piece;
+use itoa::Buffer;
+use std::alloc::{AllocError, Global};
+
+/// The number that one natural literal writes, in decimal or after `0x` in hexadecimal. `None` exactly where it is
+/// above 2^128 - 1.
+pub fn read_natural(digits: &str) -> Option<u128>
+    requires { IsTrue (is_natural digits.now) }
+    ensures { result ≡ read_natural digits.now }
+{
+    match digits.strip_prefix("0x") {
+        Some(hexadecimal) => u128::from_str_radix(hexadecimal, 16).ok(),
+        None => u128::from_str_radix(digits, 10).ok(),
+    }
+}
+
+/// The number that one integer literal writes: a sign and a natural. `None` exactly where it is outside -2^127 to
+/// 2^127 - 1.
+pub fn read_integer(text: &str) -> Option<i128>
+    requires { IsTrue (is_integer text.now) }
+    ensures { result ≡ read_integer text.now }
+{
+    let size = read_natural(&text[1..])?;
+    if text.as_bytes()[0] == b'-' {
+        0i128.checked_sub_unsigned(size)
+    } else {
+        0i128.checked_add_unsigned(size)
+    }
+}
+
+/// A natural as it is printed: in decimal.
+pub fn write_natural(alloc: Global, n: u128) -> Result<Piece, AllocError>
+    ensures { IfOk result (λ p. p ≡ write_natural n) }
+{
+    Piece::new(alloc, Buffer::new().format(n))
+}
+
+/// An integer as it is printed: in decimal, always with its sign.
+pub fn write_integer(alloc: Global, n: i128) -> Result<Piece, AllocError>
+    ensures { IfOk result (λ p. p ≡ write_integer n) }
+{
+    if n < 0 {
+        return Piece::new(alloc, Buffer::new().format(n));
+    }
+    let mut text = String::from_str(alloc, "+")?;
+    text.push_str(Buffer::new().format(n))?;
+    Ok(Piece::of(text))
+}
