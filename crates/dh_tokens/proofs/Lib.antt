@@ -1,5 +1,7 @@
 pub mod CodeSteps
 pub mod FormLaws
 pub mod GapSteps
+pub mod MarkLaws
 pub mod NameLaws
+pub mod NumberLaws
 pub mod Runs

@@ -1,4 +1,5 @@
 pub mod Classes
 pub mod Forms
 pub mod Gaps
+pub mod Marks
 pub mod Names

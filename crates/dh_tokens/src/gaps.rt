@@ -1,9 +1,9 @@
 //! What stands between tokens ("whitespace-chunk" of `dhall.abnf`), and skipped lines ("shebang").
-ghost use Rattle.std.specs.Prelude.{◌≡◌, ◌<◌, ◌≤◌, length, ◌==◌, if◌then◌else◌, IsTrue, MatchResult, Some, option_map};
+ghost use Rattle.std.specs.Prelude.{◌≡◌, ◌<◌, ◌≤◌, length, ◌==◌, if◌then◌else◌, IsTrue, MatchResult, Some, IfSome, option_map};
 ghost use Rattle.dh_syntax.specs.Characters.{begins, first, tab};
 ghost use Rattle.dh_syntax.specs.LexGaps.{white_space, line_comment, block_comment, skipped_line, line_character, comment_part};
 ghost use Rattle.dh_syntax.specs.Stretches.{stretch, Faults, itself, good_character};
-ghost use Rattle.dh_tokens.specs.Forms.{form_of};
+ghost use Rattle.dh_tokens.specs.Forms.{form_of, IsWithin};
 ghost use Rattle.dh_tokens.specs.Gaps.{IsForward, extent, part_of};
 
 use crate::characters::{after, byte_at, char_len, is_good, line_end_len};
@@ -11,7 +11,8 @@ use crate::forms::{Form, Found};
 
 /// A space, a tab or a line end.
 pub fn white_space(rest: &[u8]) -> Option<Form>
-    ensures { option_map form_of result ≡ white_space rest.now }
+    ensures value { option_map form_of result ≡ white_space rest.now }
+    ensures within { IfSome result (λ f. IsWithin f (length rest.now)) }
 {
     let len = match byte_at(rest, 0) {
         b' ' | b'\t' => 1,
@@ -56,7 +57,8 @@ fn line_len(rest: &[u8]) -> Result<usize, usize>
 /// A comment from `--` to the end of its line.
 pub fn line_comment(rest: &[u8]) -> Form
     requires { IsTrue (begins "--" rest.now) }
-    ensures { Some (form_of result) ≡ line_comment rest.now }
+    ensures value { Some (form_of result) ≡ line_comment rest.now }
+    ensures within { IsWithin result (length rest.now) }
 {
     match line_len(after(rest, 2)) {
         Ok(n) => Form {
@@ -73,7 +75,8 @@ pub fn line_comment(rest: &[u8]) -> Form
 /// A line that begins with `#!`, with its end.
 pub fn skipped_line(rest: &[u8]) -> Form
     requires { IsTrue (begins "#!" rest.now) }
-    ensures { Some (form_of result) ≡ skipped_line rest.now }
+    ensures value { Some (form_of result) ≡ skipped_line rest.now }
+    ensures within { IsWithin result (length rest.now) }
 {
     match line_len(after(rest, 2)) {
         Ok(n) => Form {
@@ -121,7 +124,8 @@ fn comment_part(rest: &[u8]) -> Part
 /// A comment from `{-` to its `-}`, with the comments in it.
 pub fn block_comment(rest: &[u8]) -> Form
     requires { IsTrue (begins "{-" rest.now) }
-    ensures { Some (form_of result) ≡ block_comment rest.now }
+    ensures value { Some (form_of result) ≡ block_comment rest.now }
+    ensures within { IsWithin result (length rest.now) }
 {
     let mut inner = 0usize;
     let mut n = 2;

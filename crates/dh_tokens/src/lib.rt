@@ -6,6 +6,8 @@ mod classes;
 mod faults;
 mod forms;
 mod gaps;
+mod marks;
 mod names;
+mod numbers;
 
 pub use faults::LexFault;

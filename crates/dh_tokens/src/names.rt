@@ -1,9 +1,9 @@
 //! Names ("simple-label", "quoted-label", "keyword" and "builtin" of `dhall.abnf`).
-ghost use Rattle.std.specs.Prelude.{◌≡◌, if◌then◌else◌, IfOk, IsTrue, Some, None, option_map, map};
+ghost use Rattle.std.specs.Prelude.{◌≡◌, if◌then◌else◌, IfOk, IsTrue, Some, None, IfSome, length, option_map, map};
 ghost use Rattle.dh_syntax.specs.Characters.{begins, first, is_name_start};
 ghost use Rattle.dh_syntax.specs.LexForms.{LeftOut, form};
 ghost use Rattle.dh_syntax.specs.LexNames.{name, named, named_in, quoted_name, minus_infinity};
-ghost use Rattle.dh_tokens.specs.Forms.{form_of, found_of};
+ghost use Rattle.dh_tokens.specs.Forms.{form_of, found_of, IsWithin};
 ghost use Rattle.dh_tokens.specs.Names.{meaning_of, meaning_or_label, reserved_of};
 
 use crate::characters::{after, byte_at};
@@ -125,7 +125,8 @@ fn named(alloc: Global, name: &str) -> Result<Found, AllocError>
 /// The longest name at the front, and what it is.
 pub fn name(alloc: Global, rest: &[u8]) -> Result<Form, AllocError>
     requires { IsTrue (is_name_start (first rest.now)) }
-    ensures { IfOk result (λ f. Some (form_of f) ≡ name rest.now) }
+    ensures value { IfOk result (λ f. Some (form_of f) ≡ name rest.now) }
+    ensures within { IfOk result (λ f. IsWithin f (length rest.now)) }
 {
     let text = run(rest, Class::Name);
     Ok(Form {
@@ -137,7 +138,8 @@ pub fn name(alloc: Global, rest: &[u8]) -> Result<Form, AllocError>
 /// A label between backticks.
 pub fn quoted_name(alloc: Global, rest: &[u8]) -> Result<Option<Form>, AllocError>
     requires { IsTrue (begins "`" rest.now) }
-    ensures { IfOk result (λ f. option_map form_of f ≡ quoted_name rest.now) }
+    ensures value { IfOk result (λ f. option_map form_of f ≡ quoted_name rest.now) }
+    ensures within { IfOk result (λ f. IfSome f (λ f. IsWithin f (length rest.now))) }
 {
     let text = run(after(rest, 1), Class::QuotedLabel);
     if byte_at(rest, 1 + text.len()) != b'`' {

@@ -19,8 +19,8 @@ loop-n-preserved c =
       so_far = comment-step_passes bs here c.loop-n.inner n c.in-Passes.len c.min-n.result read some c.in-Passes.ensures.value c.in-Passes.ensures.forward m_is;
     }
 
-pub returns-in-Stops : goal.returns-in-Stops
-returns-in-Stops c =
+pub returns-in-Stops-clause-value : goal.returns-in-Stops-clause-value
+returns-in-Stops-clause-value c =
     let bs : List ℕ = c.args.rest.now in
     let here : List ℕ = c.after.result.now in
     let n = c.loop-n.n in

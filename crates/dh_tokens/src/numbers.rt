@@ -1,0 +1,118 @@
+//! Numbers ("natural-literal" and "integer-literal" of `dhall.abnf`), and the literals that are left out.
+ghost use Rattle.std.specs.Prelude.{◌≡◌, ◌≤◌, length, IsTrue};
+ghost use Rattle.dh_syntax.specs.Characters.{is_sign};
+ghost use Rattle.dh_syntax.specs.LexForms.{LeftOut, form, longest};
+ghost use Rattle.dh_syntax.specs.LexNumbers.{begins_fraction, begins_exponent, fractional, is_shaped, natural_found, integer_found};
+ghost use Rattle.dh_syntax.specs.Numerals.{natural_len, integer_len, is_natural, is_integer, read_natural, read_integer};
+ghost use Rattle.dh_tokens.specs.Forms.{form_of, found_of};
+
+use crate::characters::{after, byte_at};
+use crate::classes::{Class, ascii_text, run_len};
+use crate::forms::{Form, Found};
+use dh_literals::{read_integer, read_natural};
+use dh_syntax::TokenKind;
+
+/// How many bytes the longest natural at the front takes, 0 where there is none.
+pub fn natural_len(rest: &[u8]) -> usize
+    ensures value { result ≡ natural_len rest.now }
+    ensures within { result ≤ length rest.now }
+{
+    if rest.starts_with(b"0x") && byte_at(rest, 2).is_ascii_hexdigit() {
+        return 2 + run_len(after(rest, 2), Class::HexDigit);
+    }
+    if byte_at(rest, 0) == b'0' {
+        1
+    } else {
+        run_len(rest, Class::Digit)
+    }
+}
+
+/// A sign of an integer.
+fn is_sign(b: u8) -> bool
+    ensures { result ≡ is_sign b }
+{
+    b == b'+' || b == b'-'
+}
+
+/// How many bytes the longest integer at the front takes, 0 where there is none.
+pub fn integer_len(rest: &[u8]) -> usize
+    ensures value { result ≡ integer_len rest.now }
+    ensures within { result ≤ length rest.now }
+{
+    if !is_sign(byte_at(rest, 0)) {
+        return 0;
+    }
+    let len = natural_len(after(rest, 1));
+    if len == 0 { 0 } else { len + 1 }
+}
+
+/// `.` and a digit.
+fn begins_fraction(rest: &[u8]) -> bool
+    ensures { result ≡ begins_fraction rest.now }
+{
+    byte_at(rest, 0) == b'.' && byte_at(rest, 1).is_ascii_digit()
+}
+
+/// `e` or `E`, possibly a sign, and a digit.
+fn begins_exponent(rest: &[u8]) -> bool
+    ensures { result ≡ begins_exponent rest.now }
+{
+    let (e, next) = (byte_at(rest, 0), byte_at(rest, 1));
+    (e == b'e' || e == b'E')
+        && (next.is_ascii_digit() || (is_sign(next) && byte_at(rest, 2).is_ascii_digit()))
+}
+
+/// How many bytes show that a fraction or an exponent follows a number of so many bytes, 0 where none does.
+fn fractional_len(len: usize, rest: &[u8]) -> usize
+    requires { len ≤ length rest.now }
+    ensures { form LeftOut result ≡ fractional len rest.now }
+{
+    let next = after(rest, len);
+    if len > 0 && (begins_fraction(next) || begins_exponent(next)) {
+        len + 2
+    } else {
+        0
+    }
+}
+
+/// Whether the bytes begin with this shape, in which 0 stands for any digit.
+fn is_shaped(shape: &[u8], rest: &[u8]) -> bool
+    ensures { result ≡ is_shaped shape.now rest.now }
+{
+    if shape.len() > rest.len() {
+        return false;
+    }
+    for (i, c) in shape.iter().enumerate() {
+        let fits = if *c == b'0' {
+            rest[i].is_ascii_digit()
+        } else {
+            rest[i] == *c
+        };
+        if !fits {
+            return false;
+        }
+    }
+    true
+}
+
+/// What a natural is.
+fn natural_found(digits: &str) -> Found
+    requires { IsTrue (is_natural digits.now) }
+    ensures { found_of result ≡ natural_found (read_natural digits.now) }
+{
+    match read_natural(digits) {
+        Some(n) => Found::Is(TokenKind::Natural(n)),
+        None => Found::TooWide,
+    }
+}
+
+/// What an integer is.
+fn integer_found(text: &str) -> Found
+    requires { IsTrue (is_integer text.now) }
+    ensures { found_of result ≡ integer_found (read_integer text.now) }
+{
+    match read_integer(text) {
+        Some(z) => Found::Is(TokenKind::Integer(z)),
+        None => Found::TooWide,
+    }
+}
