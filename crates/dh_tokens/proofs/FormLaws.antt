@@ -43,3 +43,7 @@ joined_assoc (Some f) (Some g) h = ap Some (longer-longer f g h)
 pub joined-none : (f : Option Form) → joined f None ≡ f
 joined-none None = refl
 joined-none (Some f) = refl
+
+pub longest-one : (f : Option Form) → longest (f ∷ []) ≡ f
+longest-one None = refl
+longest-one (Some f) = refl

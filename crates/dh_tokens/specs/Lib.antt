@@ -3,3 +3,4 @@ pub mod Forms
 pub mod Gaps
 pub mod Marks
 pub mod Names
+pub mod Numbers
