@@ -1,0 +1,26 @@
+-- What reserved names are.
+use Rattle.std.specs.Prelude.{ℕ, List, Option, Some, None}
+use Rattle.std.specs.Borrow.{Bor}
+use Rattle.dh_syntax.specs.declared.tokens.Mark.TheVariants as marks
+use Rattle.dh_syntax.specs.declared.tokens.TokenKind.TheVariants as kinds
+use Rattle.dh_syntax.specs.LexForms.{Found, Is, LeftOut}
+use Rattle.dh_syntax.specs.LexNames.{Reserved, reserved}
+use Rattle.dh_tokens.specs.declared.names.Meaning.{Meaning}
+use Rattle.dh_tokens.specs.declared.names.Meaning.TheVariants as meanings
+
+-- what a name of this meaning is
+abbrev pub meaning_of : Meaning → Found
+meaning_of (meanings.Keyword k) = Is (kinds.Keyword k)
+meaning_of meanings.Forall = Is (kinds.Mark marks.Forall)
+meaning_of (meanings.Bool b) = Is (kinds.Bool b)
+meaning_of (meanings.Builtin b) = Is (kinds.Builtin b)
+meaning_of meanings.LeftOut = LeftOut
+
+-- a row of a table of names
+abbrev pub reserved_of : Bor (List ℕ) × Meaning → Reserved
+reserved_of row = reserved row.0.now (meaning_of row.1)
+
+-- the same of a name that may have no meaning of its own
+abbrev pub meaning_or_label : Option Meaning → List ℕ → Found
+meaning_or_label None name = Is (kinds.Name name)
+meaning_or_label (Some m) name = meaning_of m

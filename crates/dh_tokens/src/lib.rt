@@ -1,0 +1,13 @@
+//! Text to tokens: at each place the longest form of `dhall.abnf` is read, from left to right.
+#![tactic(auto)]
+
+mod characters;
+mod classes;
+mod faults;
+mod forms;
+mod gaps;
+mod marks;
+mod names;
+mod numbers;
+
+pub use faults::LexFault;
