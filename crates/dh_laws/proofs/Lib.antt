@@ -19,8 +19,10 @@ pub mod NamedAnswers
 pub mod NamedRuns
 pub mod Occurrences
 pub mod Renamings
+pub mod RunCosts
 pub mod RunLimits
 pub mod RunsAlike
+pub mod RunsSteady
 pub mod ShiftPairs
 pub mod Shifts
 pub mod SubstPairs

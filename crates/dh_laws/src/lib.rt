@@ -23,8 +23,8 @@ pub use nameless::{
     sub_of_sub, sub_of_variables,
 };
 pub use runs::{
-    more_heights, more_units, more_units_plain, one_answer, one_cost, one_normal_form,
-    without_nesting,
+    cost_of_run, more_heights, more_units, more_units_plain, one_answer, one_cost, one_normal_form,
+    over_below_cost, without_nesting,
 };
 pub use same_runs::{costs_of_same, normal_forms_of_same, runs_of_same};
 pub use shifting::{

@@ -1,6 +1,6 @@
 //! Laws of runs: what more units and more heights change, and that normal forms and costs are one. They hold for every
 //! language over the expressions that are named.
-ghost use Rattle.dh_laws.specs.Runs.{MoreUnits, MoreUnitsPlain, MoreHeights, WithoutNesting, OneAnswer, OneNormalForm, EquivalentByNormalForms, OneWholeCost, OneCost};
+ghost use Rattle.dh_laws.specs.Runs.{MoreUnits, MoreUnitsPlain, MoreHeights, WithoutNesting, OneAnswer, OneNormalForm, EquivalentByNormalForms, OneWholeCost, OneCost, CostOfRun, OverBelowCost, WholeCostOfRun, OverBelowWholeCost};
 ghost use Rattle.dh_syntax.specs.Nameless.{Core, Bare};
 ghost use Rattle.dh_syntax.specs.Tree.{Term};
 
@@ -45,4 +45,16 @@ pub fn one_normal_form()
 pub fn one_cost()
     ensures whole { OneWholeCost Term }
     ensures plain { OneCost Term }
+{}
+
+/// What a run takes to its end is what is not left then.
+pub fn cost_of_run()
+    ensures plain { CostOfRun Term }
+    ensures whole { WholeCostOfRun Term }
+{}
+
+/// With fewer units than its cost, and only then, a run runs out of them.
+pub fn over_below_cost()
+    ensures plain { OverBelowCost Term }
+    ensures whole { OverBelowWholeCost Term }
 {}
