@@ -17,6 +17,7 @@ pub mod MovedTable
 pub mod MovedViews
 pub mod NamedAnswers
 pub mod NamedRuns
+pub mod NamelessAnswers
 pub mod Occurrences
 pub mod Renamings
 pub mod RunCosts

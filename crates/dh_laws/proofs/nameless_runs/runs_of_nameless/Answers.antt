@@ -1,0 +1,8 @@
+use Rattle.dh_laws.proofs.NamelessAnswers.{core_runs, bare_runs}
+use Rattle.dh_laws.proofs.nameless_runs.runs_of_nameless.Goals as goal
+
+pub returns-clause-with_names : goal.returns-clause-with_names
+returns-clause-with_names c = core_runs
+
+pub returns-clause-without_names : goal.returns-clause-without_names
+returns-clause-without_names c = bare_runs
