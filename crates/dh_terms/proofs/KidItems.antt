@@ -1,5 +1,5 @@
 -- What holds of the parts of a node holds of each of them.
-use Rattle.std.specs.Prelude.{◌≡◌, ◌↔◌, ◌<◌, ◌≤◌, ◌+◌, ℕ, zero, suc, List, [], ◌∷◌, length, drop, refl}
+use Rattle.std.specs.Prelude.{◌≡◌, ◌↔◌, ◌<◌, ◌≤◌, ◌+◌, ℕ, zero, suc, List, [], ◌∷◌, length, drop}
 use Rattle.std.proofs.Common.{sym, ◌∙◌, ap, arith, get_or, subst as along}
 use Rattle.dh_syntax.specs.declared.expressions.Expr.{Expr}
 use Rattle.dh_syntax.specs.declared.expressions.Expr.TheVariants as expr

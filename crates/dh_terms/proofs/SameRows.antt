@@ -1,5 +1,5 @@
 -- Testing the parts of two nodes for equality, one by one.
-use Rattle.std.specs.Prelude.{◌≡◌, ◌<◌, ◌≤◌, ◌+◌, ℕ, Bool, true, false, ◌&&◌, List, [], ◌∷◌, length, drop, Option, refl}
+use Rattle.std.specs.Prelude.{◌≡◌, ◌<◌, ◌≤◌, ◌+◌, ℕ, Bool, true, false, ◌&&◌, List, [], ◌∷◌, length, drop, refl}
 use Rattle.std.proofs.Common.{sym, ◌∙◌, ap, arith, get_or}
 use Rattle.std.proofs.Math.Bool.{and-false}
 use Rattle.dh_syntax.specs.declared.expressions.Expr.{Expr}
@@ -9,8 +9,8 @@ use Rattle.dh_syntax.specs.declared.expressions.Op.{Op}
 use Rattle.dh_syntax.specs.Bridge.{term, row_of}
 use Rattle.dh_syntax.specs.Numbers.{eq, bytes_eq}
 use Rattle.dh_syntax.specs.SameTree.{option_eq, op_eq, term_eq, row_eq}
-use Rattle.dh_syntax.specs.Tree.{Row, Leaf, Node, end, kid, Name, Var}
-use Rattle.dh_syntax.proofs.Bridge.{term-Var, term-Node, row_of-nil, row_of-cons}
+use Rattle.dh_syntax.specs.Tree.{Leaf, Node, end, kid, Name}
+use Rattle.dh_syntax.proofs.Bridge.{term-Var, term-Node}
 use Rattle.dh_syntax.proofs.Rows.{row_of-drop_item, row_of-drop_all}
 
 abbrev pub kid_eq : Kid → Kid → Bool

@@ -25,6 +25,6 @@ pub use dh_laws::{same_decides, same_is_an_equivalence};
 /// Indices that are below a limit and the number of binders of their name stay so under shifting, substitution and
 /// α-normal forms; so they grow by no more than the depth.
 pub use dh_laws::{
-    indices_and_binders, indices_below_more, indices_of_alpha, indices_of_put,
-    indices_of_shift_up, indices_of_subst, indices_put_under,
+    indices_and_binders, indices_below_more, indices_of_alpha, indices_of_put, indices_of_shift_up,
+    indices_of_subst, indices_put_under,
 };

@@ -18,3 +18,6 @@ pub use rooms::{fits_alpha, fits_shift, fits_subst};
 pub use sames::same;
 pub use shifts::shift;
 pub use substs::subst;
+
+#[cfg(test)]
+mod tests;

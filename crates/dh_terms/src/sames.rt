@@ -43,8 +43,8 @@ fn is_same_expr(a: &Expr, b: &Expr) -> bool
 {
     match (a, b) {
         (Expr::Var(x, i), Expr::Var(y, j)) => is_named(x, y) && i == j,
-        (Expr::Node(o, kids), Expr::Node(p, others)) =>
-            is_same_op(o, p) && are_same_kids(kids, others),
+        (Expr::Node(o, kids), Expr::Node(p, others)) => is_same_op(o, p)
+            && are_same_kids(kids, others),
         (Expr::Var(_, _), Expr::Node(_, _)) => false,
         (Expr::Node(_, _), Expr::Var(_, _)) => false,
     }
