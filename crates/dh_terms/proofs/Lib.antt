@@ -5,6 +5,7 @@ pub mod KidItems
 pub mod Liftings
 pub mod MoveRows
 pub mod Outer
+pub mod SameRows
 pub mod Shapes
 pub mod ShiftRows
 pub mod SubstRows
