@@ -5,6 +5,7 @@ mod canonical;
 mod chains;
 mod checks;
 mod escapes;
+pub mod laws;
 mod texts;
 
 pub use canonical::canon;
