@@ -12,3 +12,6 @@ pub use canonical::canon;
 pub use chains::chain;
 pub use checks::{cors, sane};
 pub use texts::loc_text;
+
+#[cfg(test)]
+mod tests;
