@@ -29,10 +29,10 @@ not_false true h = refl
 not_false false h = sym h
 
 -- one byte more, as it is and escaped
-kept_more : (b : ℕ) (bs : List ℕ) → is_kept_in_url b ≡ true → b ∷ url_component bs ≡ url_component (b ∷ bs)
+pub kept_more : (b : ℕ) (bs : List ℕ) → is_kept_in_url b ≡ true → b ∷ url_component bs ≡ url_component (b ∷ bs)
 kept_more b bs k = sym (ap (λ t. (if t then b ∷ [] else percent_escape b) ++ url_component bs) k)
 
-escaped_more : (b : ℕ) (bs : List ℕ) → is_kept_in_url b ≡ false → percent_escape b ++ url_component bs ≡ url_component (b ∷ bs)
+pub escaped_more : (b : ℕ) (bs : List ℕ) → is_kept_in_url b ≡ false → percent_escape b ++ url_component bs ≡ url_component (b ∷ bs)
 escaped_more b bs k = sym (ap (λ t. (if t then b ∷ [] else percent_escape b) ++ url_component bs) k)
 
 pub percent_encode-escaped : (bs : List ℕ) → All IsByte bs → percent_encode ESCAPED bs ≡ url_component bs

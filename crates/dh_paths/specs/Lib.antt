@@ -1,2 +1,3 @@
+pub mod LocationLaws
 pub mod Origins
 pub mod Paths

@@ -51,7 +51,8 @@ fn from_parent(
         Loc::Home(path) => Ok(Loc::Home(joined(alloc, false, path, up, comps)?)),
         Loc::Http(url) => Ok(Loc::Http(joined_url(alloc, url, up, comps)?)),
         Loc::Https(url) => Ok(Loc::Https(joined_url(alloc, url, up, comps)?)),
-        Loc::Env(_) | Loc::Missing => child.copied(alloc),
+        Loc::Env(_) => child.copied(alloc),
+        Loc::Missing => child.copied(alloc),
     }
 }
 

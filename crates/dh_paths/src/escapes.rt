@@ -5,8 +5,9 @@ use dh_syntax::Piece;
 use percent_encoding::{AsciiSet, NON_ALPHANUMERIC, ascii_set, percent_encode};
 use std::alloc::{AllocError, Global};
 
-/// What a component of a URL escapes (RFC 3986 §3.3, `pchar` without the comma and the brackets).
-pub const ESCAPED: AsciiSet = ascii_set!(
+// The ASCII bytes that a component of a URL escapes: all but those of `pchar` (RFC 3986 §3.3), and of these the comma
+// and the parentheses.
+const ESCAPED: AsciiSet = ascii_set!(
     NON_ALPHANUMERIC
         .remove(b'-')
         .remove(b'.')

@@ -5,9 +5,13 @@ mod canonical;
 mod chains;
 mod checks;
 mod escapes;
+pub mod laws;
 mod texts;
 
 pub use canonical::canon;
 pub use chains::chain;
 pub use checks::{cors, sane};
 pub use texts::loc_text;
+
+#[cfg(test)]
+mod tests;
