@@ -2,6 +2,7 @@ pub mod EscapesRead
 pub mod EscapesWritten
 pub mod Fronts
 pub mod Lines
+pub mod LinesCut
 pub mod LinesShared
 pub mod NumbersRead
 pub mod SplitParts

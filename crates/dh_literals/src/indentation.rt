@@ -11,18 +11,19 @@ use std::alloc::{AllocError, Global};
 /// The pieces between the interpolations of a multi-line text, whose lines end with line feeds, without the
 /// indentation that all of its lines share.
 pub fn unindent(alloc: Global, pieces: Pieces) -> Result<Pieces, AllocError>
-    ensures { IfOk result (λ cut. cut ≡ unindent pieces) }
+    ensures { IfOk result (λ made. made ≡ unindent pieces) }
 {
-    let width = indented_by(pieces.as_slice());
-    let Some((first, later)) = pieces.as_slice().split_first() else {
+    let all = pieces.as_slice();
+    let Some((first, later)) = all.split_first() else {
         return Ok(Many::new(alloc));
     };
-    let mut cut = Many::new(alloc);
-    cut.push(without_indentation(alloc, first.as_str(), width)?)?;
+    let width = indented_by(all);
+    let mut made = Many::new(alloc);
+    made.push(without_indentation(alloc, first.as_str(), width)?)?;
     for piece in later {
-        cut.push(without_later_indentation(alloc, piece.as_str(), width)?)?;
+        made.push(without_later_indentation(alloc, piece.as_str(), width)?)?;
     }
-    Ok(cut)
+    Ok(made)
 }
 
 // How many bytes all lines of the text are indented by.
