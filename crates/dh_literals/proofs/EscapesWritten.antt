@@ -34,7 +34,7 @@ pub plain_character : (c : ℕ) → scalar c ≡ true → 32 ≤ c → c ≢ byt
 plain_character c s low p q r = plain_bytes c (shape c (scalar_cases c s)) low p q r
 
 -- a control character without a letter of its own
-control_byte : (b : ℕ) → b < 32 → b ≢ 8 → b ≢ 12 → b ≢ 10 → b ≢ 13 → b ≢ 9 → escape_byte b ≡ codes "\\u00" ++ (hex_digit (b / 16) ∷ hex_digit (b % 16) ∷ [])
+pub control_byte : (b : ℕ) → b < 32 → b ≢ 8 → b ≢ 12 → b ≢ 10 → b ≢ 13 → b ≢ 9 → escape_byte b ≡ codes "\\u00" ++ (hex_digit (b / 16) ∷ hex_digit (b % 16) ∷ [])
 control_byte b h p q r s t = grind (arith, nat_tests)
 
 hex_output : (n : ℕ) (d : _) (s : _) → n < 256 → digits_output d ≡ Some (digits 16 true n) → s ≡ format_spec 32 0 4 2 (2 ^ 64 - 1) → styled_digits_output d s ≡ Some (digit_glyph true (n / 16) ∷ digit_glyph true (n % 16) ∷ [])

@@ -57,14 +57,14 @@ by_itself b bs rest counts plain =
     ∙ ap (λ l. onto (b ∷ bs) (suc (length bs)) (stretch escape_or_character 0 l)) (drop_at bs rest (length bs) refl)
 
 -- a character that is no backslash stands for itself
-one_character : (c : ℕ) (rest : List ℕ) → scalar c ≡ true → get_or (encode c) 0 0 ≢ byte "\\" → stretch escape_or_character 0 (encode c ++ rest) ≡ onto (encode c) (length (encode c)) (stretch escape_or_character 0 rest)
+pub one_character : (c : ℕ) (rest : List ℕ) → scalar c ≡ true → get_or (encode c) 0 0 ≢ byte "\\" → stretch escape_or_character 0 (encode c ++ rest) ≡ onto (encode c) (length (encode c)) (stretch escape_or_character 0 rest)
 one_character c rest s plain =
     let h = has_head c (shape c (scalar_cases c s)) in
     let P : List ℕ → Type 0 = λ l. stretch escape_or_character 0 (l ++ rest) ≡ onto l (length l) (stretch escape_or_character 0 rest) in
     let other : h.head ≢ byte "\\" = λ e. plain (ap (λ l. get_or l 0 0) h.is ∙ e) in
     subst P (sym h.is) (by_itself h.head h.tail rest h.counts other)
 
-some_bytes : (c : ℕ) → scalar c ≡ true → 0 < length (encode c)
+pub some_bytes : (c : ℕ) → scalar c ≡ true → 0 < length (encode c)
 some_bytes c s = let h = has_head c (shape c (scalar_cases c s)) in let e : length (encode c) ≡ suc (length h.tail) = ap length h.is in omega arith
 
 -- and so does a text without one
