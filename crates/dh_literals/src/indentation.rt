@@ -160,3 +160,48 @@ fn cut_line(line: &str, width: usize) -> &str
 {
     &line[width.min(line.len())..]
 }
+
+#[cfg(test)]
+mod tests {
+    use super::*;
+    use std::test::Fail;
+
+    fn pieces(alloc: Global, texts: &[&str]) -> Result<Pieces, AllocError> {
+        let mut made = Many::new(alloc);
+        for text in texts {
+            made.push(Piece::new(alloc, text)?)?;
+        }
+        Ok(made)
+    }
+
+    #[test]
+    fn removes_shared_indentation(rt: HostRuntime) -> Result<(), Fail> {
+        let rows: [(&[&str], &[&str]); 13] = [
+            (&[], &[]),
+            (&[""], &[""]),
+            (&["  a\n    b\n  "], &["a\n  b\n"]),
+            // the last line counts, here with no blanks
+            (&["  a\n    b\n"], &["  a\n    b\n"]),
+            // the empty line does not count, the line of one space does
+            (&["  a\n\n  b\n  "], &["a\n\nb\n"]),
+            (&["  a\n \n  b\n  "], &[" a\n\n b\n "]),
+            // a tab is no space
+            (&["\t a\n\t b\n\t "], &["a\nb\n"]),
+            (&["\t a\n \tb\n\t"], &["\t a\n \tb\n\t"]),
+            // an interpolation ends the blanks, and what follows it begins no line
+            (&["  a\n  ", "  b\n   c ", " d"], &["a\n", "  b\n c ", " d"]),
+            (&["", "\n  a\n  "], &["", "\n  a\n  "]),
+            (&["  a\n   ", ""], &["a\n ", ""]),
+            (&[" é a "], &["é a "]),
+            (&["  a\r\n  "], &["a\r\n"]),
+        ];
+        for (before, after) in rows {
+            let made = unindent(rt.alloc(), pieces(rt.alloc(), before)?)?;
+            assert_eq!(rt; made.len(), after.len());
+            for (piece, text) in made.as_slice().iter().zip(after) {
+                assert_eq!(rt; piece.as_str(), *text);
+            }
+        }
+        Ok(())
+    }
+}
