@@ -1,16 +1,15 @@
 -- A text that was escaped is read as that text.
-use Rattle.std.proofs.Common.{◌≡◌, ℕ, zero, suc, ◌+◌, ◌/◌, ◌%◌, ◌<◌, ◌≤◌, ◌≢◌, Bool, true, false, not, cond, if◌then◌else◌, eqb, leb, List, [], ◌∷◌, ◌++◌, length, get_or, drop, take, ◌==◌, ◌&&◌, codes, append_assoc, append-nil, length-append, inl, inr, Ok, refl, ap, sym, subst, ◌∙◌, lit<, lit≤, arith}
+use Rattle.std.proofs.Common.{◌≡◌, ℕ, ◌/◌, ◌%◌, ◌<◌, ◌≤◌, ◌≢◌, true, not, if◌then◌else◌, List, [], ◌∷◌, ◌++◌, length, get_or, ◌&&◌, codes, append_assoc, append-nil, length-append, inl, inr, Ok, refl, ap, sym, subst, ◌∙◌, lit<, arith}
 use lib.Utf8.{scalar, scalars, encode, encodes}
 use Rattle.std.proofs.lemmas.Bool.{cases_lt, cases_eq}
 use Rattle.std.proofs.lemmas.Bool.Decides.{nat_tests}
 use Rattle.std.proofs.lemmas.Str.{char_from_byte, encode_ascii}
 use Rattle.std.specs.Char.{digit_value, is_ascii_hexdigit}
-use Rattle.std.specs.List.{prefix_len}
 use Rattle.std.specs.Str.{IsUtf8, byte}
 use Rattle.std.specs.Str.Parse.{digits_value}
 use Rattle.dh_syntax.specs.Characters.{is_scalar, is_noncharacter}
 use Rattle.dh_syntax.specs.Literals.{escape, escape_byte, escaped, hex_digit, numbered, escape_or_character, text_of, unescape, unicode_escape}
-use Rattle.dh_syntax.specs.Stretches.{Reads, Faults, UpTo, stretch}
+use Rattle.dh_syntax.specs.Stretches.{Reads, Faults, stretch}
 use Rattle.dh_syntax.proofs.Numbers.{and-true_left, and-true_right}
 use Rattle.dh_literals.proofs.Stretching.{onto, onto-none, onto-onto, one_character, one_escape, some_bytes}
 use Rattle.dh_literals.proofs.EscapesWritten.{escape-append, plain_character, control_byte}
@@ -67,8 +66,9 @@ plain c s low quote backslash dollar rest =
 -- a character that may be this one
 or_else : (c b : ℕ) → b < 128 → IsReadBack (b ∷ []) → (c ≢ b → IsReadBack (encode c)) → IsReadBack (encode c)
 or_else c b ascii here other = elim (cases_eq c b) [
-    inl e ↦ subst IsReadBack (sym (ap encode e ∙ encode_ascii b ascii)) here
-  | inr n ↦ other n ]
+  | inl e ↦ subst IsReadBack (sym (ap encode e ∙ encode_ascii b ascii)) here
+  | inr n ↦ other n
+]
 
 character : (c : ℕ) → scalar c ≡ true → IsReadBack (encode c)
 character c s =
@@ -81,8 +81,9 @@ character c s =
     or_else c 13 (lit< tt) (letter 13 (byte "r") refl (λ r. refl)) (λ n13.
     or_else c 9 (lit< tt) (letter 9 (byte "t") refl (λ r. refl)) (λ n9.
     elim (cases_lt c 32) [
-        inl low ↦ subst IsReadBack (sym (encode_ascii c (omega arith))) (number c low n8 n12 n10 n13 n9)
-      | inr high ↦ plain c s high quote backslash dollar ]))))))))
+      | inl low ↦ subst IsReadBack (sym (encode_ascii c (omega arith))) (number c low n8 n12 n10 n13 n9)
+      | inr high ↦ plain c s high quote backslash dollar
+    ]))))))))
 
 chars_back : (cs : List ℕ) → scalars cs ≡ true → IsReadBack (encodes cs)
 chars_back [] s rest = onto-none (stretch escape_or_character 0 rest)

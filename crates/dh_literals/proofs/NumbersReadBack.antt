@@ -1,5 +1,5 @@
 -- Printed numbers are read as what they are.
-use Rattle.std.proofs.Common.{◌≡◌, ℕ, zero, suc, ◌+◌, ◌*◌, ◌/◌, ◌%◌, ◌^◌, ◌<◌, ◌≤◌, Bool, true, false, cond, if◌then◌else◌, eqb, ltb, List, [], ◌∷◌, ◌++◌, length, one-add, inl, inr, neg_ℤ, get_or, slice_index, drop, ◌==◌, ◌&&◌, Option, Some, None, ℤ, pos, negsuc, refl, ap, sym, subst, ◌∙◌, lit<, arith, IsTrue, decimal}
+use Rattle.std.proofs.Common.{◌≡◌, ℕ, suc, ◌+◌, ◌/◌, ◌%◌, ◌^◌, ◌<◌, ◌≤◌, Bool, true, false, cond, if◌then◌else◌, ltb, List, [], ◌∷◌, ◌++◌, length, one-add, inl, inr, neg_ℤ, get_or, slice_index, drop, ◌==◌, ◌&&◌, Some, None, ℤ, pos, negsuc, refl, ap, sym, subst, ◌∙◌, lit<, arith, decimal}
 use Rattle.std.proofs.lemmas.Bool.{cases_lt, eq-eqb, eqb-true, lt-ltb}
 use Rattle.std.specs.Cmp.Derive.{both_true}
 use borrow.Author.Tests.{ltb-true}
@@ -13,7 +13,7 @@ use Rattle.std.specs.List.{prefix_len}
 use Rattle.std.specs.Str.{byte}
 use Rattle.std.specs.Str.Parse.{AllDigits, digits_value}
 use Rattle.dh_syntax.specs.Characters.{first, begins, is_sign}
-use Rattle.dh_syntax.specs.Numerals.{is_natural, is_integer, natural_len, integer_len, natural_fits, integer_fits, natural_value, integer_value, read_natural, read_integer, write_natural, write_integer}
+use Rattle.dh_syntax.specs.Numerals.{is_natural, is_integer, natural_len, integer_len, natural_fits, integer_fits, natural_value, read_natural, read_integer, write_natural, write_integer}
 use Rattle.dh_literals.proofs.NumbersRead.{begins-not}
 
 decimal_digit : (c : ℕ) → digit_value c < 10 → is_ascii_digit c ≡ true

@@ -122,11 +122,7 @@ fn without_indentation(alloc: Global, piece: &str, width: usize) -> Result<Piece
 }
 
 // The same, but for the first line.
-fn without_later_indentation(
-    alloc: Global,
-    piece: &str,
-    width: usize,
-) -> Result<Piece, AllocError>
+fn without_later_indentation(alloc: Global, piece: &str, width: usize) -> Result<Piece, AllocError>
     requires { IsTrue (list_all (is_blank_before width) (drop 1 (lines_of piece.now))) }
     ensures { IfOk result
         (λ p. p ≡ join_with_byte line_feed (cut_later width (lines_of piece.now))) }
@@ -193,6 +189,7 @@ mod tests {
             (&["", "\n  a\n  "], &["", "\n  a\n  "]),
             (&["  a\n   ", ""], &["a\n ", ""]),
             (&[" é a "], &["é a "]),
+            // line ends are line feeds: a carriage return is a byte of its line
             (&["  a\r\n  "], &["a\r\n"]),
         ];
         for (before, after) in rows {

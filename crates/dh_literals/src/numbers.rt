@@ -61,9 +61,18 @@ mod tests {
         assert_eq!(rt; read_natural("1024"), Some(1024));
         assert_eq!(rt; read_natural("0x10"), Some(16));
         assert_eq!(rt; read_natural("0xABCdef"), Some(11_259_375));
-        assert_eq!(rt; read_natural("340282366920938463463374607431768211455"), Some(u128::MAX));
-        assert_eq!(rt; read_natural("340282366920938463463374607431768211456"), None);
-        assert_eq!(rt; read_natural("0x00ffffffffffffffffffffffffffffffff"), Some(u128::MAX));
+        assert_eq!(rt;
+            read_natural("340282366920938463463374607431768211455"),
+            Some(u128::MAX)
+        );
+        assert_eq!(rt;
+            read_natural("340282366920938463463374607431768211456"),
+            None
+        );
+        assert_eq!(rt;
+            read_natural("0x00ffffffffffffffffffffffffffffffff"),
+            Some(u128::MAX)
+        );
         assert_eq!(rt; read_natural("0x100000000000000000000000000000000"), None);
     }
 
@@ -74,10 +83,22 @@ mod tests {
         assert_eq!(rt; read_integer("-7"), Some(-7));
         assert_eq!(rt; read_integer("+0x10"), Some(16));
         assert_eq!(rt; read_integer("-0xfF"), Some(-255));
-        assert_eq!(rt; read_integer("+170141183460469231731687303715884105727"), Some(i128::MAX));
-        assert_eq!(rt; read_integer("+170141183460469231731687303715884105728"), None);
-        assert_eq!(rt; read_integer("-170141183460469231731687303715884105728"), Some(i128::MIN));
-        assert_eq!(rt; read_integer("-170141183460469231731687303715884105729"), None);
+        assert_eq!(rt;
+            read_integer("+170141183460469231731687303715884105727"),
+            Some(i128::MAX)
+        );
+        assert_eq!(rt;
+            read_integer("+170141183460469231731687303715884105728"),
+            None
+        );
+        assert_eq!(rt;
+            read_integer("-170141183460469231731687303715884105728"),
+            Some(i128::MIN)
+        );
+        assert_eq!(rt;
+            read_integer("-170141183460469231731687303715884105729"),
+            None
+        );
         assert_eq!(rt; read_integer("+0x100000000000000000000000000000000"), None);
     }
 

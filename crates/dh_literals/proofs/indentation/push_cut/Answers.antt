@@ -19,10 +19,11 @@ loop-line-preserved c =
     let split = split_at 10 rest c.in-Some.line c.in-Some.more (lit< tt) c.in-Some.ensures.cases in
     let so_far = string_bytes c.loop-line.text in
     let end = c.in_ok-push.ensures.ascii (lit< tt) in
-    let written = c.in_ok-push.ensures.bytes ∙ ap (λ l. string_bytes c.push_str.new.self ++ l) end ∙ ap (λ l. l ++ (10 ∷ [])) (c.in_ok-push_str.ensures.bytes ∙ ap (λ l. so_far ++ l) c.cut_line.ensures) in
-    (after_utf8 10 rest line more (lit< tt) c.loop-line.invariant.0 split,
-    (blank_first c.args.width rest line more split c.loop-line.invariant.1).1,
-    written_more c.args.width rest line more so_far (string_bytes c.push.new.self) split written ∙ c.loop-line.invariant.2)
+    let written = c.in_ok-push.ensures.bytes ∙ ap (λ l. string_bytes c.push_str.new.self ++ l) end ∙ ap (λ l. l ++ (10 ∷ [])) (c.in_ok-push_str.ensures.bytes ∙ ap (λ l. so_far ++ l) c.cut_line.ensures) in (
+      after_utf8 10 rest line more (lit< tt) c.loop-line.invariant.0 split,
+      (blank_first c.args.width rest line more split c.loop-line.invariant.1).1,
+      written_more c.args.width rest line more so_far (string_bytes c.push.new.self) split written ∙ c.loop-line.invariant.2,
+    )
 
 pub cut_line-requires-2 : goal.cut_line-requires-2
 cut_line-requires-2 c =
