@@ -1,11 +1,11 @@
 -- What the parts of an escape are read as.
-use Rattle.std.proofs.Common.{◌≡◌, ℕ, zero, suc, ◌+◌, ◌^◌, ◌<◌, ◌≤◌, Bool, true, false, not, cond, if◌then◌else◌, eqb, leb, ltb, List, [], ◌∷◌, ◌++◌, lit<, length, get_or, length-take-le, add-one, one-add, slice_index, slice_get, add-zero, inl, inr, ◌==◌, ◌&&◌, drop, take, Option, Some, None, Result, Ok, Err, refl, ap, sym, subst, ◌∙◌, arith}
+use Rattle.std.proofs.Common.{◌≡◌, ℕ, suc, ◌+◌, ◌^◌, ◌<◌, ◌≤◌, Bool, true, false, not, if◌then◌else◌, eqb, leb, ltb, List, [], ◌∷◌, ◌++◌, lit<, length, get_or, one-add, slice_index, slice_get, add-zero, inl, inr, ◌==◌, ◌&&◌, drop, take, Some, None, Result, Ok, Err, ap, sym, subst, ◌∙◌, arith}
 use Rattle.std.proofs.lemmas.Bool.{cases_lt, eqb-true, lt-ltb}
 use Rattle.std.proofs.lemmas.Bool.Decides.{nat_tests, same_from_decides, Decides-eqb, Decides-like}
 use Rattle.std.proofs.lemmas.List.{get_or-drop, get_or_past}
 use Rattle.std.specs.Bool.{Decides}
-use Rattle.std.proofs.lemmas.List.Sums.{prefix_len_passes, prefix_len-le-length}
-use Rattle.std.proofs.lemmas.Str.{encode_ascii, IsUtf8-past_char, IsCharBoundary-start, IsCharBoundary-after_ascii, IsCharBoundary-from_rest}
+use Rattle.std.proofs.lemmas.List.Sums.{prefix_len_passes}
+use Rattle.std.proofs.lemmas.Str.{encode_ascii, IsCharBoundary-after_ascii, IsCharBoundary-from_rest}
 use Rattle.std.proofs.lemmas.Str.Parse.{without_leading_plus_none}
 use Rattle.std.specs.Char.{is_ascii_hexdigit, encode_utf8}
 use Rattle.std.specs.List.{prefix_len, list_all}
@@ -136,7 +136,7 @@ after_brace bs ds n u e at =
 pub braced_some : (bs ds : List ℕ) (c n : ℕ) → IsUtf8 bs → bs ≡ byte "{" ∷ ds → n ≡ prefix_len is_ascii_hexdigit ds → is_closed n ds ≡ true → IsNamed (digits_value 16 (take n ds)) (Some c) → IsRead (unicode_escape bs) 2 bs (Some (c, n + 2))
 braced_some bs ds c n u e len closed named =
     let form : unicode_escape bs ≡ numbered (digits_value 16 (take n ds)) (4 + n) =
-        ap unicode_escape e ∙ braced_form ds true (ap (λ k. is_closed k ds) (sym len) ∙ closed) ∙ ap (λ k. numbered (digits_value 16 (take k ds)) (4 + k)) (sym len) in
+    ap unicode_escape e ∙ braced_form ds true (ap (λ k. is_closed k ds) (sym len) ∙ closed) ∙ ap (λ k. numbered (digits_value 16 (take k ds)) (4 + k)) (sym len) in
     let size : 4 + n ≡ 2 + (n + 2) = omega arith in
     let at = eqb-true (get_or ds n 0) 125 (and-true_right (ltb 0 n) (slice_index ds n == byte "}") closed) in
     (form ∙ numbered_some (digits_value 16 (take n ds)) (4 + n) c named ∙ ap (Reads (encode_utf8 c)) size, after_brace bs ds n u e at)

@@ -1,6 +1,6 @@
 -- A text as it is printed between double quotes, character by character.
-use Rattle.std.proofs.Common.{◌≡◌, ℕ, suc, ◌+◌, ◌-◌, ◌^◌, ◌<◌, ◌≤◌, ◌≢◌, ◌/◌, ◌%◌, Bool, true, false, cond, if◌then◌else◌, eqb, ltb, List, [], ◌∷◌, ◌++◌, length, ◌==◌, ◌||◌, Option, Some, None, Result, Ok, Err, OnOk, codes, append_assoc, append-nil, refl, ap, sym, subst, ◌∙◌, lit<, arith}
-use lib.Utf8.{scalar, scalars, encode, encodes, scalar_cases}
+use Rattle.std.proofs.Common.{◌≡◌, ℕ, ◌-◌, ◌^◌, ◌<◌, ◌≤◌, ◌≢◌, ◌/◌, ◌%◌, true, false, if◌then◌else◌, List, [], ◌∷◌, ◌++◌, Option, Some, Result, Ok, Err, OnOk, codes, append_assoc, append-nil, refl, ap, sym, subst, ◌∙◌, arith}
+use lib.Utf8.{scalar, encode, encodes, scalar_cases}
 use Rattle.std.proofs.str.Laws.{Shape, shape, of1, of2, of3, of4, one, encodes-append}
 use Rattle.std.proofs.lemmas.Bool.Decides.{nat_tests}
 use Rattle.std.proofs.lemmas.Fmt.{hex_byte}
@@ -9,7 +9,6 @@ use Rattle.std.specs.Fmt.{AppendsText, ◌++?◌, digits, digit_glyph, digits_ou
 use Rattle.std.specs.Option.{option_map}
 use Rattle.std.specs.Result.{is_ok}
 use Rattle.std.specs.Str.{byte}
-use Rattle.dh_syntax.specs.Characters.{is_control}
 use Rattle.dh_syntax.specs.Literals.{escape, escape_byte, hex_digit}
 
 pub escape-append : (xs ys : List ℕ) → escape (xs ++ ys) ≡ escape xs ++ escape ys
@@ -34,7 +33,7 @@ pub plain_character : (c : ℕ) → scalar c ≡ true → 32 ≤ c → c ≢ byt
 plain_character c s low p q r = plain_bytes c (shape c (scalar_cases c s)) low p q r
 
 -- a control character without a letter of its own
-control_byte : (b : ℕ) → b < 32 → b ≢ 8 → b ≢ 12 → b ≢ 10 → b ≢ 13 → b ≢ 9 → escape_byte b ≡ codes "\\u00" ++ (hex_digit (b / 16) ∷ hex_digit (b % 16) ∷ [])
+pub control_byte : (b : ℕ) → b < 32 → b ≢ 8 → b ≢ 12 → b ≢ 10 → b ≢ 13 → b ≢ 9 → escape_byte b ≡ codes "\\u00" ++ (hex_digit (b / 16) ∷ hex_digit (b % 16) ∷ [])
 control_byte b h p q r s t = grind (arith, nat_tests)
 
 hex_output : (n : ℕ) (d : _) (s : _) → n < 256 → digits_output d ≡ Some (digits 16 true n) → s ≡ format_spec 32 0 4 2 (2 ^ 64 - 1) → styled_digits_output d s ≡ Some (digit_glyph true (n / 16) ∷ digit_glyph true (n % 16) ∷ [])
@@ -53,7 +52,7 @@ written old new o bs e h =
 pub control_written : {E : Type 0} (c : ℕ) (old new : List ℕ) (r : Result (Unit {0}) E) (d : _) (s : _) → c < 32 → c ≢ 8 → c ≢ 12 → c ≢ 10 → c ≢ 13 → c ≢ 9 → digits_output d ≡ Some (digits 16 true c) → s ≡ format_spec 32 0 4 2 (2 ^ 64 - 1) → OnOk r (AppendsText old new (Some (codes "\\u00") ++? styled_digits_output d s)) → OnOk r (new ≡ old ++ escape (encode c))
 control_written {E} c old new r d s h n8 n12 n10 n13 n9 digits_are spec_is w =
     let text : escape (encode c) ≡ codes "\\u00" ++ (digit_glyph true (c / 16) ∷ digit_glyph true (c % 16) ∷ []) =
-        ap escape (one c (omega arith)) ∙ append-nil (escape_byte c) ∙ control_byte c h n8 n12 n10 n13 n9 in
+    ap escape (one c (omega arith)) ∙ append-nil (escape_byte c) ∙ control_byte c h n8 n12 n10 n13 n9 in
     on_ok_weaker r (λ a. written old new (styled_digits_output d s) (digit_glyph true (c / 16) ∷ digit_glyph true (c % 16) ∷ []) (hex_output c d s (omega arith) digits_are spec_is) a ∙ ap (λ l. old ++ l) (sym text)) w
 
 -- a character that stands for itself, pushed

@@ -1,9 +1,12 @@
 pub mod EscapesRead
+pub mod EscapesReadBack
 pub mod EscapesWritten
 pub mod Fronts
 pub mod Lines
+pub mod LinesCut
 pub mod LinesShared
 pub mod NumbersRead
+pub mod NumbersReadBack
 pub mod SplitParts
 pub mod Stretching
 pub mod Unescaping

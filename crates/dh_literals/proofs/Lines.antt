@@ -1,7 +1,7 @@
 -- The lines of a text, from one line feed to the next.
-use Rattle.std.proofs.Common.{◌≡◌, ℕ, suc, ◌+◌, ◌<◌, ◌≢◌, Bool, true, false, cond, eqb, List, [], ◌∷◌, ◌++◌, length, map, get_or, drop, ◌==◌, refl, ap, sym, ◌∙◌, arith}
+use Rattle.std.proofs.Common.{◌≡◌, ℕ, suc, ◌<◌, ◌≢◌, Bool, true, false, cond, List, [], ◌∷◌, ◌++◌, length, ◌==◌, refl, ap, sym, ◌∙◌, arith}
 use Rattle.std.proofs.lemmas.Bool.Decides.{nat_tests}
-use Rattle.std.specs.List.{onto_first, slice_split, join_with_byte}
+use Rattle.std.specs.List.{onto_first}
 use Rattle.dh_syntax.specs.Characters.{line_feed}
 use Rattle.dh_syntax.specs.Literals.{counted, lines_of}
 use Rattle.dh_literals.proofs.SplitParts.{Lacks, SplitAt}

@@ -1,5 +1,5 @@
 -- The indentation that lines share.
-use Rattle.std.proofs.Common.{◌≡◌, ℕ, zero, suc, ◌+◌, ◌<◌, ◌≤◌, ◌≢◌, min, Bool, true, false, not, cond, if◌then◌else◌, eqb, nat_eq, List, [], ◌∷◌, ◌++◌, length, map, get_or, take, drop, inl, inr, one-add, ◌==◌, Option, Some, None, length-take-le, refl, ap, sym, subst, ◌∙◌, arith}
+use Rattle.std.proofs.Common.{◌≡◌, ℕ, ◌+◌, ◌<◌, min, Bool, true, false, cond, eqb, nat_eq, List, [], ◌∷◌, ◌++◌, length, map, get_or, take, drop, inl, inr, one-add, ◌==◌, Option, Some, None, length-take-le, refl, ap, sym, ◌∙◌, arith}
 use Rattle.std.proofs.lemmas.Bool.{cases_lt}
 use Rattle.std.proofs.lemmas.Bool.Decides.{nat_tests}
 use Rattle.std.proofs.lemmas.List.{drop_all, drop_more, map-append}
@@ -18,8 +18,9 @@ none_common (x ∷ xs) = refl
 -- where one of two texts is at its end
 common_at_end : (xs ys : List ℕ) (n : ℕ) → n ≡ min (length xs) (length ys) → common_prefix_len nat_eq (drop n xs) (drop n ys) ≡ 0
 common_at_end xs ys n e = elim (cases_lt (length xs) (length ys)) [
-    inl h ↦ ap (λ l. common_prefix_len nat_eq l (drop n ys)) (drop_all n xs (omega arith))
-  | inr h ↦ ap (common_prefix_len nat_eq (drop n xs)) (drop_all n ys (omega arith)) ∙ none_common (drop n xs) ]
+  | inl h ↦ ap (λ l. common_prefix_len nat_eq l (drop n ys)) (drop_all n xs (omega arith))
+  | inr h ↦ ap (common_prefix_len nat_eq (drop n xs)) (drop_all n ys (omega arith)) ∙ none_common (drop n xs)
+]
 
 pub common_fits : (xs ys : List ℕ) (n : ℕ) → n ≡ common_prefix_len nat_eq xs ys → n ≡ length (take n xs)
 common_fits xs ys n e = sym (length-take-le n xs (let le = common_prefix_len-le nat_eq xs ys in omega (arith, le.0)))

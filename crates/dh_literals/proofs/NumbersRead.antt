@@ -1,5 +1,5 @@
 -- What std's parsing of digits gives at a natural and at an integer.
-use Rattle.std.proofs.Common.{◌≡◌, ℕ, suc, ◌+◌, ◌^◌, ◌<◌, ◌≤◌, Bool, true, false, cond, if◌then◌else◌, eqb, ltb, List, [], ◌∷◌, length, get_or, slice_index, ◌==◌, ◌&&◌, drop, Option, Some, None, Result, Ok, Err, refl, ap, sym, subst, ◌∙◌, arith}
+use Rattle.std.proofs.Common.{◌≡◌, ℕ, suc, ◌+◌, ◌^◌, ◌<◌, ◌≤◌, Bool, true, false, cond, if◌then◌else◌, eqb, ltb, List, [], ◌∷◌, length, get_or, slice_index, ◌==◌, ◌&&◌, drop, Option, Some, None, Result, Ok, Err, refl, ap, sym, subst, arith}
 use Rattle.std.proofs.lemmas.Bool.{eqb-true, true≢false}
 use borrow.Author.Tests.{ltb-true}
 use Rattle.dh_syntax.proofs.Numbers.{and-true_left, and-true_right}
@@ -11,7 +11,7 @@ use Rattle.std.specs.Result.{OkIff, result_ok}
 use Rattle.std.specs.Str.{byte}
 use Rattle.std.specs.Str.Parse.{AllDigits, IsNumeral, ParsesUnsigned, digits_value}
 use Rattle.dh_syntax.specs.Characters.{first, begins}
-use Rattle.dh_syntax.specs.Numerals.{is_natural, natural_len, natural_fits, natural_value, read_natural}
+use Rattle.dh_syntax.specs.Numerals.{is_natural, natural_len, natural_fits, read_natural}
 
 pub decimal_digit : (c : ℕ) → is_ascii_digit c ≡ true → digit_value c < 10
 decimal_digit c h = grind (arith, nat_tests)
@@ -80,9 +80,9 @@ decimal_numeral-by ds false false n none e some h = (some, all_digits 10 is_asci
 pub decimal_numeral : (ds : List ℕ) → is_natural ds ≡ true → begins "0x" ds ≡ false → IsNumeral 10 ds
 decimal_numeral ds h none =
     decimal_numeral-by ds (begins "0x" ds && is_ascii_hexdigit (slice_index ds 2)) (first ds == byte "0") (2 + prefix_len is_ascii_hexdigit (drop 2 ds))
-        (sym (ap (λ b. b && is_ascii_hexdigit (slice_index ds 2)) none)) refl
-        (ltb-true 0 (length ds) (and-true_left (ltb 0 (length ds)) (eqb (natural_len ds) (length ds)) h))
-        (eqb-true (natural_len ds) (length ds) (and-true_right (ltb 0 (length ds)) (eqb (natural_len ds) (length ds)) h))
+    (sym (ap (λ b. b && is_ascii_hexdigit (slice_index ds 2)) none)) refl
+    (ltb-true 0 (length ds) (and-true_left (ltb 0 (length ds)) (eqb (natural_len ds) (length ds)) h))
+    (eqb-true (natural_len ds) (length ds) (and-true_right (ltb 0 (length ds)) (eqb (natural_len ds) (length ds)) h))
 
 not_both : (x y : Bool) → (x ≡ true → y ≡ true → ⊥) → (x && (y && true)) ≡ false
 not_both false y h = refl

@@ -1,11 +1,10 @@
 -- A stretch of a text by its parts.
-use Rattle.std.proofs.Common.{◌≡◌, ℕ, zero, suc, pred, ◌+◌, ◌<◌, ◌≤◌, ◌≢◌, Bool, true, false, cond, if◌then◌else◌, eqb, List, [], ◌∷◌, ◌++◌, length, get_or, ◌==◌, drop, take, length-append, append_assoc, append-nil, refl, ap, sym, subst, ◌∙◌, lit<, arith}
+use Rattle.std.proofs.Common.{◌≡◌, ℕ, suc, ◌+◌, ◌<◌, ◌≤◌, ◌≢◌, true, false, if◌then◌else◌, List, [], ◌∷◌, ◌++◌, length, get_or, ◌==◌, drop, take, length-append, append_assoc, refl, ap, sym, subst, ◌∙◌, arith}
 use lib.Utf8.{scalar, scalars, encode, encodes, scalar_cases}
 use Rattle.std.proofs.str.Laws.{Shape, shape, of1, of2, of3, of4}
 use Rattle.std.proofs.lemmas.Bool.Decides.{nat_tests}
 use Rattle.std.proofs.lemmas.List.{drop_at, take_at, get_or_append_left, get_or-append-add}
 use Rattle.std.specs.Str.{IsUtf8, byte, continuation_len}
-use Rattle.dh_syntax.specs.Characters.{first, char_len}
 use Rattle.dh_syntax.specs.Literals.{escaped, escape_or_character}
 use Rattle.dh_syntax.specs.Stretches.{Character, Reads, Faults, Stretch, UpTo, FaultAt, by_character, further, stretch, itself}
 use Rattle.dh_syntax.proofs.LexingLaws.{lengthened, stretch-skip}
@@ -50,21 +49,21 @@ by_itself b bs rest counts plain =
     let other : (b == byte "\\") ≡ false = grind (arith, nat_tests) in
     let size : length bs ≤ length (bs ++ rest) = omega (arith, length-append bs rest) in
     let reads : escape_or_character (b ∷ (bs ++ rest)) ≡ Reads (b ∷ bs) (suc (length bs)) =
-        ap (λ t. if t then escaped (bs ++ rest) else itself (b ∷ (bs ++ rest))) other
-        ∙ ap (λ k. Reads (take (suc k) (b ∷ (bs ++ rest))) (suc k)) counts
-        ∙ ap (λ l. Reads (b ∷ l) (suc (length bs))) (take_at bs rest (length bs) refl) in
+    ap (λ t. if t then escaped (bs ++ rest) else itself (b ∷ (bs ++ rest))) other
+    ∙ ap (λ k. Reads (take (suc k) (b ∷ (bs ++ rest))) (suc k)) counts
+    ∙ ap (λ l. Reads (b ∷ l) (suc (length bs))) (take_at bs rest (length bs) refl) in
     by_first escape_or_character b (length bs) (bs ++ rest) (b ∷ bs) size reads
     ∙ ap (λ l. onto (b ∷ bs) (suc (length bs)) (stretch escape_or_character 0 l)) (drop_at bs rest (length bs) refl)
 
 -- a character that is no backslash stands for itself
-one_character : (c : ℕ) (rest : List ℕ) → scalar c ≡ true → get_or (encode c) 0 0 ≢ byte "\\" → stretch escape_or_character 0 (encode c ++ rest) ≡ onto (encode c) (length (encode c)) (stretch escape_or_character 0 rest)
+pub one_character : (c : ℕ) (rest : List ℕ) → scalar c ≡ true → get_or (encode c) 0 0 ≢ byte "\\" → stretch escape_or_character 0 (encode c ++ rest) ≡ onto (encode c) (length (encode c)) (stretch escape_or_character 0 rest)
 one_character c rest s plain =
     let h = has_head c (shape c (scalar_cases c s)) in
     let P : List ℕ → Type 0 = λ l. stretch escape_or_character 0 (l ++ rest) ≡ onto l (length l) (stretch escape_or_character 0 rest) in
     let other : h.head ≢ byte "\\" = λ e. plain (ap (λ l. get_or l 0 0) h.is ∙ e) in
     subst P (sym h.is) (by_itself h.head h.tail rest h.counts other)
 
-some_bytes : (c : ℕ) → scalar c ≡ true → 0 < length (encode c)
+pub some_bytes : (c : ℕ) → scalar c ≡ true → 0 < length (encode c)
 some_bytes c s = let h = has_head c (shape c (scalar_cases c s)) in let e : length (encode c) ≡ suc (length h.tail) = ap length h.is in omega arith
 
 -- and so does a text without one

@@ -1,10 +1,10 @@
 -- Reading a text between double quotes, from one backslash to the next.
-use Rattle.std.proofs.Common.{◌≡◌, Bor, ℕ, suc, ◌+◌, ◌-◌, ◌<◌, ◌≤◌, ◌≢◌, List, [], ◌∷◌, ◌++◌, length, get_or, drop, take, lit<, Some, Ok, Err, length-append, length-drop, append_assoc, append-nil, refl, ap, sym, subst, ◌∙◌, arith}
+use Rattle.std.proofs.Common.{◌≡◌, ℕ, ◌+◌, ◌-◌, ◌≤◌, List, [], ◌∷◌, ◌++◌, length, drop, lit<, Some, Ok, Err, length-drop, append_assoc, append-nil, ap, sym, subst, ◌∙◌, arith}
 use Rattle.std.proofs.lemmas.Str.{IsUtf8-drop}
 use Rattle.std.specs.Char.{encode_utf8}
 use Rattle.std.specs.Str.{IsUtf8, IsCharBoundary, byte}
 use Rattle.dh_syntax.specs.Literals.{escaped, escape_or_character, text_of, unescape}
-use Rattle.dh_syntax.specs.Stretches.{UpTo, FaultAt, Reads, Faults, stretch}
+use Rattle.dh_syntax.specs.Stretches.{UpTo, Reads, Faults, stretch}
 use Rattle.dh_literals.specs.Escape.{IsRead}
 use Rattle.dh_literals.proofs.SplitParts.{Lacks, SplitAt, split_size, before_utf8, after_utf8}
 use Rattle.dh_literals.proofs.Stretching.{onto, onto-none, onto-onto, plain_text, one_escape, no_escape}
@@ -22,7 +22,7 @@ at_start inner text u e =
     record {
       so_far = onto-none S ∙ ap (λ k. onto [] k S) size ∙ ap (λ l. onto l (length inner - length inner) S) (sym e);
       within = omega arith;
-      utf8 = u
+      utf8 = u;
     }
 
 -- the rest by its first backslash
@@ -39,13 +39,13 @@ stepped inner text rest plain escape front n h split reads cut =
     let count : before + (length plain + (1 + n)) ≡ length inner - length (drop n escape) = omega (arith, size, fits, left, h.within) in
     record {
       so_far =
-        h.so_far
-        ∙ ap (onto text before) (stretched rest plain escape h.utf8 split ∙ ap (onto plain (length plain)) (one_escape escape front n fits reads) ∙ onto-onto plain front (length plain) (1 + n) S)
-        ∙ onto-onto text (plain ++ front) before (length plain + (1 + n)) S
-        ∙ ap (λ l. onto l (before + (length plain + (1 + n))) S) (sym (append_assoc text plain front))
-        ∙ ap (λ k. onto (text ++ plain ++ front) k S) count;
+          h.so_far
+          ∙ ap (onto text before) (stretched rest plain escape h.utf8 split ∙ ap (onto plain (length plain)) (one_escape escape front n fits reads) ∙ onto-onto plain front (length plain) (1 + n) S)
+          ∙ onto-onto text (plain ++ front) before (length plain + (1 + n)) S
+          ∙ ap (λ l. onto l (before + (length plain + (1 + n))) S) (sym (append_assoc text plain front))
+          ∙ ap (λ k. onto (text ++ plain ++ front) k S) count;
       within = omega (arith, size, fits, left, h.within);
-      utf8 = IsUtf8-drop escape n (after_utf8 (byte "\\") rest plain escape (lit< tt) h.utf8 split) cut
+      utf8 = IsUtf8-drop escape n (after_utf8 (byte "\\") rest plain escape (lit< tt) h.utf8 split) cut;
     }
 
 pub after_escape : (inner text rest plain escape text' rest' : List ℕ) (c n : ℕ) → ReadUpTo inner text rest → SplitAt (byte "\\") rest plain escape → IsRead (escaped escape) 1 escape (Some (c, n)) → text' ≡ text ++ plain ++ encode_utf8 c → rest' ≡ drop n escape → ReadUpTo inner text' rest'

@@ -86,3 +86,62 @@ fn named(text: &str, count: usize) -> Option<char>
     }
     char::from_u32(code)
 }
+
+#[cfg(test)]
+mod tests {
+    use super::*;
+    use std::test::Fail;
+
+    #[test]
+    fn reads_escapes(rt: HostRuntime) -> Result<(), Fail> {
+        let rows = [
+            ("", ""),
+            ("plain é😀", "plain é😀"),
+            ("\\\"\\$\\\\\\/", "\"$\\/"),
+            ("\\b\\f\\n\\r\\t", "\u{8}\u{c}\n\r\t"),
+            ("\\u0041\\u00e9\\u20AC", "Aé€"),
+            ("\\u{1F600}\\u{41}\\u{0000000000E9}", "😀Aé"),
+            ("\\u{10FFFD}\\uD7FF\\uE000", "\u{10FFFD}\u{D7FF}\u{E000}"),
+            ("a\\u0000z$", "a\0z$"),
+        ];
+        for (inner, text) in rows {
+            match unescape(rt.alloc(), inner) {
+                Ok(piece) => assert_eq!(rt; piece.as_str(), text),
+                Err(fault) => assert!(rt; false, "{inner}: {fault:?}"),
+            }
+        }
+        Ok(())
+    }
+
+    #[test]
+    fn refuses_bad_escapes(rt: HostRuntime) {
+        let rows = [
+            ("\\q", 0),
+            ("a\\", 1),
+            ("\\n\\x", 2),
+            ("é\\'", 2),
+            ("\\\\\\u12", 2),
+            ("\\u12g4", 0),
+            ("\\u{}", 0),
+            ("\\u{41", 0),
+            ("\\u{4g}", 0),
+            // surrogates
+            ("ab\\uD800", 2),
+            ("\\u{DFFF}", 0),
+            // past the last scalar value
+            ("\\u{110000}", 0),
+            ("\\u{100000041}", 0),
+            // non-characters
+            ("\\uFFFE", 0),
+            ("\\uFFFF", 0),
+            ("\\u{1FFFE}", 0),
+            ("\\u{10FFFF}", 0),
+        ];
+        for (inner, at) in rows {
+            match unescape(rt.alloc(), inner) {
+                Ok(_) => assert!(rt; false, "{inner} was read"),
+                Err(fault) => assert_eq!(rt; fault, LitFault::BadEscape(at), "{inner}"),
+            }
+        }
+    }
+}

@@ -32,3 +32,25 @@ fn push_escaped(text: &mut String, c: char) -> Result<(), AllocError>
         _ => text.push(c),
     }
 }
+
+#[cfg(test)]
+mod tests {
+    use super::*;
+    use std::test::Fail;
+
+    #[test]
+    fn escapes_texts(rt: HostRuntime) -> Result<(), Fail> {
+        let rows = [
+            ("", ""),
+            ("a b/é😀\u{7f}", "a b/é😀\u{7f}"),
+            ("\"\\${x}", "\\\"\\\\\\${x}"),
+            ("\u{8}\u{c}\n\r\t", "\\b\\f\\n\\r\\t"),
+            ("\0\u{b}\u{1f}", "\\u0000\\u000B\\u001F"),
+        ];
+        for (text, escaped) in rows {
+            let piece = Piece::new(rt.alloc(), text)?;
+            assert_eq!(rt; escape(rt.alloc(), &piece)?.as_str(), escaped);
+        }
+        Ok(())
+    }
+}

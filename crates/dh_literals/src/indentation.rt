@@ -11,18 +11,19 @@ use std::alloc::{AllocError, Global};
 /// The pieces between the interpolations of a multi-line text, whose lines end with line feeds, without the
 /// indentation that all of its lines share.
 pub fn unindent(alloc: Global, pieces: Pieces) -> Result<Pieces, AllocError>
-    ensures { IfOk result (λ cut. cut ≡ unindent pieces) }
+    ensures { IfOk result (λ made. made ≡ unindent pieces) }
 {
-    let width = indented_by(pieces.as_slice());
-    let Some((first, later)) = pieces.as_slice().split_first() else {
+    let all = pieces.as_slice();
+    let Some((first, later)) = all.split_first() else {
         return Ok(Many::new(alloc));
     };
-    let mut cut = Many::new(alloc);
-    cut.push(without_indentation(alloc, first.as_str(), width)?)?;
+    let width = indented_by(all);
+    let mut made = Many::new(alloc);
+    made.push(without_indentation(alloc, first.as_str(), width)?)?;
     for piece in later {
-        cut.push(without_later_indentation(alloc, piece.as_str(), width)?)?;
+        made.push(without_later_indentation(alloc, piece.as_str(), width)?)?;
     }
-    Ok(cut)
+    Ok(made)
 }
 
 // How many bytes all lines of the text are indented by.
@@ -121,11 +122,7 @@ fn without_indentation(alloc: Global, piece: &str, width: usize) -> Result<Piece
 }
 
 // The same, but for the first line.
-fn without_later_indentation(
-    alloc: Global,
-    piece: &str,
-    width: usize,
-) -> Result<Piece, AllocError>
+fn without_later_indentation(alloc: Global, piece: &str, width: usize) -> Result<Piece, AllocError>
     requires { IsTrue (list_all (is_blank_before width) (drop 1 (lines_of piece.now))) }
     ensures { IfOk result
         (λ p. p ≡ join_with_byte line_feed (cut_later width (lines_of piece.now))) }
@@ -158,4 +155,50 @@ fn cut_line(line: &str, width: usize) -> &str
     ensures { result.now ≡ drop width line.now }
 {
     &line[width.min(line.len())..]
+}
+
+#[cfg(test)]
+mod tests {
+    use super::*;
+    use std::test::Fail;
+
+    fn pieces(alloc: Global, texts: &[&str]) -> Result<Pieces, AllocError> {
+        let mut made = Many::new(alloc);
+        for text in texts {
+            made.push(Piece::new(alloc, text)?)?;
+        }
+        Ok(made)
+    }
+
+    #[test]
+    fn removes_shared_indentation(rt: HostRuntime) -> Result<(), Fail> {
+        let rows: [(&[&str], &[&str]); 13] = [
+            (&[], &[]),
+            (&[""], &[""]),
+            (&["  a\n    b\n  "], &["a\n  b\n"]),
+            // the last line counts, here with no blanks
+            (&["  a\n    b\n"], &["  a\n    b\n"]),
+            // the empty line does not count, the line of one space does
+            (&["  a\n\n  b\n  "], &["a\n\nb\n"]),
+            (&["  a\n \n  b\n  "], &[" a\n\n b\n "]),
+            // a tab is no space
+            (&["\t a\n\t b\n\t "], &["a\nb\n"]),
+            (&["\t a\n \tb\n\t"], &["\t a\n \tb\n\t"]),
+            // an interpolation ends the blanks, and what follows it begins no line
+            (&["  a\n  ", "  b\n   c ", " d"], &["a\n", "  b\n c ", " d"]),
+            (&["", "\n  a\n  "], &["", "\n  a\n  "]),
+            (&["  a\n   ", ""], &["a\n ", ""]),
+            (&[" é a "], &["é a "]),
+            // line ends are line feeds: a carriage return is a byte of its line
+            (&["  a\r\n  "], &["a\r\n"]),
+        ];
+        for (before, after) in rows {
+            let made = unindent(rt.alloc(), pieces(rt.alloc(), before)?)?;
+            assert_eq!(rt; made.len(), after.len());
+            for (piece, text) in made.as_slice().iter().zip(after) {
+                assert_eq!(rt; piece.as_str(), *text);
+            }
+        }
+        Ok(())
+    }
 }

@@ -5,6 +5,7 @@ mod escapes;
 mod escaping;
 mod faults;
 mod indentation;
+pub mod laws;
 mod numbers;
 
 pub use escapes::unescape;

@@ -49,3 +49,79 @@ pub fn write_integer(alloc: Global, n: i128) -> Result<Piece, AllocError>
     text.push_str(Buffer::new().format(n))?;
     Ok(Piece::of(text))
 }
+
+#[cfg(test)]
+mod tests {
+    use super::*;
+    use std::test::Fail;
+
+    #[test]
+    fn reads_naturals(rt: HostRuntime) {
+        assert_eq!(rt; read_natural("0"), Some(0));
+        assert_eq!(rt; read_natural("1024"), Some(1024));
+        assert_eq!(rt; read_natural("0x10"), Some(16));
+        assert_eq!(rt; read_natural("0xABCdef"), Some(11_259_375));
+        assert_eq!(rt;
+            read_natural("340282366920938463463374607431768211455"),
+            Some(u128::MAX)
+        );
+        assert_eq!(rt;
+            read_natural("340282366920938463463374607431768211456"),
+            None
+        );
+        assert_eq!(rt;
+            read_natural("0x00ffffffffffffffffffffffffffffffff"),
+            Some(u128::MAX)
+        );
+        assert_eq!(rt; read_natural("0x100000000000000000000000000000000"), None);
+    }
+
+    #[test]
+    fn reads_integers(rt: HostRuntime) {
+        assert_eq!(rt; read_integer("+0"), Some(0));
+        assert_eq!(rt; read_integer("-0"), Some(0));
+        assert_eq!(rt; read_integer("-7"), Some(-7));
+        assert_eq!(rt; read_integer("+0x10"), Some(16));
+        assert_eq!(rt; read_integer("-0xfF"), Some(-255));
+        assert_eq!(rt;
+            read_integer("+170141183460469231731687303715884105727"),
+            Some(i128::MAX)
+        );
+        assert_eq!(rt;
+            read_integer("+170141183460469231731687303715884105728"),
+            None
+        );
+        assert_eq!(rt;
+            read_integer("-170141183460469231731687303715884105728"),
+            Some(i128::MIN)
+        );
+        assert_eq!(rt;
+            read_integer("-170141183460469231731687303715884105729"),
+            None
+        );
+        assert_eq!(rt; read_integer("+0x100000000000000000000000000000000"), None);
+    }
+
+    #[test]
+    fn writes_numbers(rt: HostRuntime) -> Result<(), Fail> {
+        let naturals = [
+            (0, "0"),
+            (1024, "1024"),
+            (u128::MAX, "340282366920938463463374607431768211455"),
+        ];
+        for (n, text) in naturals {
+            assert_eq!(rt; write_natural(rt.alloc(), n)?.as_str(), text);
+        }
+        let integers = [
+            (0, "+0"),
+            (5, "+5"),
+            (-1, "-1"),
+            (i128::MAX, "+170141183460469231731687303715884105727"),
+            (i128::MIN, "-170141183460469231731687303715884105728"),
+        ];
+        for (n, text) in integers {
+            assert_eq!(rt; write_integer(rt.alloc(), n)?.as_str(), text);
+        }
+        Ok(())
+    }
+}

@@ -1,4 +1,4 @@
-use Rattle.std.proofs.Common.{List, ℕ, subst, sym, ◌∙◌}
+use Rattle.std.proofs.Common.{subst, sym, ◌∙◌}
 use Rattle.std.proofs.lemmas.Slice.{between_from_start}
 use Rattle.std.specs.Str.Parse.{ParsesUnsigned}
 use Rattle.dh_literals.proofs.EscapesRead.{hexadecimal_boundary, refused_unnamed}

@@ -1,4 +1,4 @@
-use Rattle.std.proofs.Common.{lit<, arith, refl, ap, ◌∙◌}
+use Rattle.std.proofs.Common.{lit<, refl}
 use Rattle.dh_literals.proofs.EscapesRead.{first_boundary, one_letter, after_u}
 use Rattle.dh_literals.proofs.escapes.read_escape.Goals as goal
 

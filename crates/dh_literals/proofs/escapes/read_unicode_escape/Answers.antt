@@ -1,4 +1,4 @@
-use Rattle.std.proofs.Common.{Some, sym, ◌∙◌, lit<, lit≤, arith}
+use Rattle.std.proofs.Common.{Some, ◌∙◌, lit<, arith}
 use Rattle.std.proofs.lemmas.Str.Pattern.{starts_char, strip_prefix_char}
 use Rattle.dh_literals.proofs.Fronts.{text_after}
 use Rattle.dh_literals.proofs.EscapesRead.{hexadecimal_boundary, four_too_few, four_none, four_some, braced_open, braced_some, no_digits, closed_by}
@@ -25,10 +25,10 @@ returns-then-count-eq0 c =
     let ds = c.in-Some.braced.now in
     let n = c.hexadecimal_len-count.result in
     elim c.then-count-eq0.branch [
-        then-count-eq0-via-then-count-eq0 w ↦ braced_open c.args.text.now ds n opened c.hexadecimal_len-count.ensures (no_digits n ds w.if-count-eq0.true)
+      | then-count-eq0-via-then-count-eq0 w ↦ braced_open c.args.text.now ds n opened c.hexadecimal_len-count.ensures (no_digits n ds w.if-count-eq0.true)
       | then-count-eq0-via-else-count-eq0+then-not-starts_with w ↦
           braced_open c.args.text.now ds n opened c.hexadecimal_len-count.ensures
-              (closed_by w.starts_with.result n ds w.range_from.result.now (omega arith) w.range_from.ensures.value (starts_char 125 w.range_from.result.now w.starts_with.result w.starts_with.ensures.cases (lit< tt) (lit< tt)) ∙ w.if-not-starts_with.true)
+          (closed_by w.starts_with.result n ds w.range_from.result.now (omega arith) w.range_from.ensures.value (starts_char 125 w.range_from.result.now w.starts_with.result w.starts_with.ensures.cases (lit< tt) (lit< tt)) ∙ w.if-not-starts_with.true)
     ]
 
 pub returns : goal.returns
@@ -37,5 +37,5 @@ returns c =
     let ds = c.in-Some.braced.now in
     let n = c.hexadecimal_len-count.result in
     braced_some c.args.text.now ds c.in_ok-named-2.field-0 n c.utf8.text opened c.hexadecimal_len-count.ensures
-        (closed_by c.starts_with.result n ds c.range_from.result.now (omega arith) c.range_from.ensures.value (starts_char 125 c.range_from.result.now c.starts_with.result c.starts_with.ensures.cases (lit< tt) (lit< tt)) ∙ c.if-not-starts_with.false)
-        c.in_ok-named-2.ensures
+    (closed_by c.starts_with.result n ds c.range_from.result.now (omega arith) c.range_from.ensures.value (starts_char 125 c.range_from.result.now c.starts_with.result c.starts_with.ensures.cases (lit< tt) (lit< tt)) ∙ c.if-not-starts_with.false)
+    c.in_ok-named-2.ensures

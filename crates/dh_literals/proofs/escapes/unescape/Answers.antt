@@ -1,4 +1,4 @@
-use Rattle.std.proofs.Common.{Some, None, Ok, ◌++◌, ap, sym, ◌∙◌, lit<}
+use Rattle.std.proofs.Common.{None, Ok, ◌++◌, ap, sym, ◌∙◌, lit<}
 use Rattle.std.proofs.lemmas.Str.Pattern.{split_parts}
 use Rattle.std.specs.Char.{encode_utf8}
 use Rattle.std.specs.String.{string_bytes}
