@@ -1,8 +1,12 @@
 pub mod CodeSteps
+pub mod ComponentLaws
+pub mod DigestLaws
 pub mod FormLaws
 pub mod GapSteps
 pub mod MarkLaws
 pub mod NameLaws
 pub mod NumberForms
 pub mod NumberLaws
+pub mod PathLaws
 pub mod Runs
+pub mod UrlLaws

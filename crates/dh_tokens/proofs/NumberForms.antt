@@ -21,8 +21,9 @@ pub left_out-joined : (m n : ℕ) → joined (form LeftOut m) (form LeftOut n) �
 left_out-joined zero n = let e : n ≡ max 0 n = omega arith in ap (form LeftOut) e
 left_out-joined (suc m) zero = let e : suc m ≡ max (suc m) 0 = omega arith in ap (form LeftOut) e
 left_out-joined (suc m) (suc n) = elim (cases_lt (suc m) (suc n)) [
-    inl below ↦ (let e : suc n ≡ max (suc m) (suc n) = omega (arith, below) in left_out-longer m n true (lt-ltb (suc m) (suc n) below) ∙ ap (form LeftOut) e)
-    | inr above ↦ (let e : suc m ≡ max (suc m) (suc n) = omega (arith, above) in left_out-longer m n false (le-ltb (suc m) (suc n) above) ∙ ap (form LeftOut) e) ]
+  | inl below ↦ (let e : suc n ≡ max (suc m) (suc n) = omega (arith, below) in left_out-longer m n true (lt-ltb (suc m) (suc n) below) ∙ ap (form LeftOut) e)
+  | inr above ↦ (let e : suc m ≡ max (suc m) (suc n) = omega (arith, above) in left_out-longer m n false (le-ltb (suc m) (suc n) above) ∙ ap (form LeftOut) e)
+]
 
 shaped_form : (fits : Bool) (n : ℕ) → form LeftOut (if fits then suc n else 0) ≡ (if fits then form LeftOut (suc n) else None)
 shaped_form true n = refl

@@ -1,6 +1,9 @@
 pub mod Classes
+pub mod Components
 pub mod Forms
 pub mod Gaps
 pub mod Marks
 pub mod Names
 pub mod Numbers
+pub mod Paths
+pub mod Urls

@@ -1,5 +1,5 @@
 //! The character at the front of bytes.
-ghost use Rattle.std.specs.Prelude.{◌≡◌, ℕ, ◌+◌, ◌-◌, ◌*◌, ◌^◌, ◌<◌, ◌≤◌, length, drop, slice_index, if◌then◌else◌};
+ghost use Rattle.std.specs.Prelude.{◌≡◌, ℕ, ◌+◌, ◌-◌, ◌*◌, ◌^◌, ◌<◌, ◌≤◌, length, take, drop, slice_index, if◌then◌else◌};
 ghost use Rattle.std.specs.Str.{continuation_len};
 ghost use Rattle.dh_syntax.specs.Characters.{line_end_len, char_len, code_at, code_after};
 ghost use Rattle.dh_syntax.specs.Stretches.{Faults, good_character, itself};
@@ -17,6 +17,13 @@ pub fn after(rest: &[u8], n: usize) -> &[u8]
     ensures { result.now ≡ drop n rest.now }
 {
     &rest[n..]
+}
+
+/// The first bytes, at most so many.
+pub fn up_to(rest: &[u8], n: usize) -> &[u8]
+    ensures { result.now ≡ take n rest.now }
+{
+    &rest[..rest.len().min(n)]
 }
 
 /// How many bytes the line end at the front takes, 0 where there is none.

@@ -35,7 +35,7 @@ fn is_path_byte(b: u8) -> bool
 }
 
 /// A byte that stands for itself in the path of a URL.
-fn is_segment_byte(b: u8) -> bool
+pub fn is_segment_byte(b: u8) -> bool
     ensures { result ≡ is_segment_byte b }
 {
     b.is_ascii_alphanumeric()
@@ -79,6 +79,7 @@ impl Class {
 pub fn run_len(rest: &[u8], class: Class) -> usize
     ensures value { result ≡ prefix_len (has class) rest.now }
     ensures within { result ≤ length rest.now }
+    ensures ascii { IsAscii (take result rest.now) }
 {
     let mut n = 0;
     for b in rest {

@@ -3,11 +3,16 @@
 
 mod characters;
 mod classes;
+mod components;
+mod digests;
+mod environments;
 mod faults;
 mod forms;
 mod gaps;
 mod marks;
 mod names;
 mod numbers;
+mod paths;
+mod urls;
 
 pub use faults::LexFault;

@@ -55,9 +55,15 @@ static RESERVED: [(&str, Meaning); 59] = [
     ("Natural/isZero", Meaning::Builtin(Builtin::NaturalIsZero)),
     ("Natural/even", Meaning::Builtin(Builtin::NaturalEven)),
     ("Natural/odd", Meaning::Builtin(Builtin::NaturalOdd)),
-    ("Natural/toInteger", Meaning::Builtin(Builtin::NaturalToInteger)),
+    (
+        "Natural/toInteger",
+        Meaning::Builtin(Builtin::NaturalToInteger),
+    ),
     ("Natural/show", Meaning::Builtin(Builtin::NaturalShow)),
-    ("Natural/subtract", Meaning::Builtin(Builtin::NaturalSubtract)),
+    (
+        "Natural/subtract",
+        Meaning::Builtin(Builtin::NaturalSubtract),
+    ),
     ("Integer/show", Meaning::Builtin(Builtin::IntegerShow)),
     ("Integer/negate", Meaning::Builtin(Builtin::IntegerNegate)),
     ("Integer/clamp", Meaning::Builtin(Builtin::IntegerClamp)),

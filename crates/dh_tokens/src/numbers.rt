@@ -103,7 +103,11 @@ fn shaped_len(shape: &[u8], rest: &[u8]) -> usize
     ensures value { result ≡ (if is_shaped shape.now rest.now then length shape.now else 0) }
     ensures within { result ≤ length rest.now }
 {
-    if is_shaped(shape, rest) { shape.len() } else { 0 }
+    if is_shaped(shape, rest) {
+        shape.len()
+    } else {
+        0
+    }
 }
 
 /// How many bytes show a binary literal or one of bytes, 0 where none stands at the front.
