@@ -1,15 +1,16 @@
 use Rattle.std.proofs.Common.{min, ap, sym, ◌∙◌, arith}
 use Rattle.dh_syntax.specs.Bridge.{term, row_of}
 use Rattle.dh_syntax.specs.Nesting.{nesting, parts_nesting}
-use Rattle.dh_syntax.proofs.Nesting.{nesting-Var, nesting-Node, nesting_keeps, nesting_ends}
+use Rattle.dh_syntax.proofs.Bridge.{term-Var, term-Node}
+use Rattle.dh_syntax.proofs.Nesting.{nesting_keeps, nesting_ends}
 use Rattle.dh_terms.proofs.rooms.+levels.Goals as goal
 
 pub levels-returns-in-Var : goal.levels-returns-in-Var
-levels-returns-in-Var t c = sym (ap (λ e. min (nesting (term e)) 4294967296) c.in-Var.is ∙ ap (λ n. min n 4294967296) (nesting-Var c.in-Var.field-0 c.in-Var.field-1))
+levels-returns-in-Var t c = sym (ap (λ e. min (nesting (term e)) 4294967296) c.in-Var.is ∙ ap (λ n. min n 4294967296) (ap nesting (term-Var c.in-Var.field-0 c.in-Var.field-1)))
 
 pub levels-returns-in-Node : goal.levels-returns-in-Node
 levels-returns-in-Node t c =
-    c.levels_of_kids.ensures ∙ sym (ap (λ e. min (nesting (term e)) 4294967296) c.in-Node.is ∙ ap (λ n. min n 4294967296) (nesting-Node c.in-Node.field-0 c.in-Node.kids))
+    c.levels_of_kids.ensures ∙ sym (ap (λ e. min (nesting (term e)) 4294967296) c.in-Node.is ∙ ap (λ n. min n 4294967296) (ap nesting (term-Node c.in-Node.field-0 c.in-Node.kids)))
 
 pub levels_of_kids-loop-kid-preserved : goal.levels_of_kids-loop-kid-preserved
 levels_of_kids-loop-kid-preserved t c =
