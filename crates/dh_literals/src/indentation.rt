@@ -1,4 +1,4 @@
-ghost use Rattle.std.specs.Prelude.{◌≡◌, [], ◌∷◌, ◌++◌, map, take, drop, length, take_while, nat_eq, string_bytes, IsTrue, IfOk, OnOk};
+ghost use Rattle.std.specs.Prelude.{◌≡◌, [], ◌∷◌, ◌++◌, map, take, drop, nat_eq, string_bytes, IsTrue, IfOk, OnOk};
 ghost use Rattle.std.specs.List.{common_prefix_len, prefix_len, join_with_byte, list_all};
 ghost use Rattle.std.specs.Option.{option_copied};
 ghost use Rattle.dh_syntax.specs.Characters.{line_feed};
