@@ -1,5 +1,6 @@
 pub mod Alpha
 pub mod Indices
+pub mod LabelOrder
 pub mod Nameless
 pub mod NamelessAnswers
 pub mod Runs

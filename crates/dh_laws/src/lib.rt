@@ -3,6 +3,7 @@
 
 mod alpha;
 mod indices;
+mod labels;
 mod nameless;
 mod nameless_runs;
 mod runs;
@@ -18,6 +19,7 @@ pub use indices::{
     indices_and_binders, indices_below_more, indices_of_alpha, indices_of_put, indices_of_shift_up,
     indices_of_subst, indices_put_under,
 };
+pub use labels::label_order_is_total;
 pub use nameless::{
     alpha_reads_bare, core_of_put, core_of_shift_up, core_of_subst, forget_of_sub, reading_back,
     ren_is_sub, ren_of_first, ren_of_ren, ren_of_sub, same_is_bare, sub_of_first, sub_of_ren,
