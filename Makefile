@@ -8,7 +8,7 @@ run: build
 
 # The built program stands at crates/dhall/out/dhall.
 build:
-	cd crates/dhall && rt run >/dev/null
+	cd crates/dhall && rt run -- encode < stdin > /dev/null
 
 # Every proof, test, refused edit and program.
 check:
