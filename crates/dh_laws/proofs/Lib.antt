@@ -18,6 +18,7 @@ pub mod MovedViews
 pub mod NamedAnswers
 pub mod NamedRuns
 pub mod NamelessAnswers
+pub mod NamelessTests
 pub mod Occurrences
 pub mod Renamings
 pub mod RunCosts

@@ -25,7 +25,7 @@ pub use nameless::{
     ren_is_sub, ren_of_first, ren_of_ren, ren_of_sub, same_is_bare, sub_of_first, sub_of_ren,
     sub_of_sub, sub_of_variables,
 };
-pub use nameless_runs::runs_of_nameless;
+pub use nameless_runs::{runs_of_nameless, test_of_nameless};
 pub use runs::{
     cost_of_run, more_heights, more_units, more_units_plain, one_answer, one_cost, one_normal_form,
     over_below_cost, without_nesting,

@@ -1,7 +1,10 @@
 -- α-normal forms that were worked out by hand.
-use Rattle.std.specs.Prelude.{◌≡◌, true, false, refl}
+use Rattle.std.specs.Prelude.{◌≡◌, true, false, codes, refl}
 use Rattle.dh_syntax.specs.Alpha.{alpha, same, blank}
 use Rattle.dh_syntax.specs.ExampleTerms.{x, y, var, bool, nat, plus, lam, pi, let_in, let_typed}
+
+blank_name : blank ≡ codes "_"
+blank_name = refl
 
 -- `λ(y : Bool) → y@1` is `λ(_ : Bool) → y`: no binder of y is left above the free y
 alpha_free : alpha (lam y bool (var y 1)) ≡ lam blank bool (var y 0)

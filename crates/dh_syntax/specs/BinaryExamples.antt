@@ -25,6 +25,25 @@ twenty_three = refl
 twenty_four : natural 24 ≡ 0x18 ∷ 0x18 ∷ []
 twenty_four = refl
 
+-- the greatest number of each head, and the least one of the next
+widest_in_one_byte : natural 255 ≡ 0x18 ∷ 0xFF ∷ []
+widest_in_one_byte = refl
+
+least_in_two_bytes : natural 256 ≡ 0x19 ∷ 0x01 ∷ 0x00 ∷ []
+least_in_two_bytes = refl
+
+widest_in_two_bytes : natural 65535 ≡ 0x19 ∷ 0xFF ∷ 0xFF ∷ []
+widest_in_two_bytes = refl
+
+least_in_four_bytes : natural 65536 ≡ 0x1A ∷ 0x00 ∷ 0x01 ∷ 0x00 ∷ 0x00 ∷ []
+least_in_four_bytes = refl
+
+widest_in_four_bytes : natural 4294967295 ≡ 0x1A ∷ 0xFF ∷ 0xFF ∷ 0xFF ∷ 0xFF ∷ []
+widest_in_four_bytes = refl
+
+least_in_eight_bytes : natural 4294967296 ≡ 0x1B ∷ 0x00 ∷ 0x00 ∷ 0x00 ∷ 0x01 ∷ 0x00 ∷ 0x00 ∷ 0x00 ∷ 0x00 ∷ []
+least_in_eight_bytes = refl
+
 hundred : natural 100 ≡ 0x18 ∷ 0x64 ∷ []
 hundred = refl
 
@@ -196,6 +215,14 @@ argument = refl
 lets : enc (Node (ops.Let false) (kid None (bool true) (kid (Some x_) (Node (ops.Let true) (kid None Bool_ (kid None (var x_ 0) (kid (Some y_) (var y_ 0) end)))) end))) ≡ 0x88 ∷ 0x18 ∷ 0x19 ∷ 0x61 ∷ 0x78 ∷ 0xF6 ∷ 0xF5 ∷ 0x61 ∷ 0x79 ∷ 0x64 ∷ 0x42 ∷ 0x6F ∷ 0x6F ∷ 0x6C ∷ 0x82 ∷ 0x61 ∷ 0x78 ∷ 0x00 ∷ 0x82 ∷ 0x61 ∷ 0x79 ∷ 0x00 ∷ []
 lets = refl
 
+-- `(let x = True in x) y`, whose let is no part of the spine
+applied_let : enc (app (Node (ops.Let false) (in_binder (bool true) x_ (var x_ 0))) (var y_ 0)) ≡ 0x83 ∷ 0x00 ∷ 0x85 ∷ 0x18 ∷ 0x19 ∷ 0x61 ∷ 0x78 ∷ 0xF6 ∷ 0xF5 ∷ 0x82 ∷ 0x61 ∷ 0x78 ∷ 0x00 ∷ 0x82 ∷ 0x61 ∷ 0x79 ∷ 0x00 ∷ []
+applied_let = refl
+
+-- `let x = True in x y`, whose body is one item
+let_of_application : enc (Node (ops.Let false) (in_binder (bool true) x_ (app (var x_ 0) (var y_ 0)))) ≡ 0x85 ∷ 0x18 ∷ 0x19 ∷ 0x61 ∷ 0x78 ∷ 0xF6 ∷ 0xF5 ∷ 0x83 ∷ 0x00 ∷ 0x82 ∷ 0x61 ∷ 0x78 ∷ 0x00 ∷ 0x82 ∷ 0x61 ∷ 0x79 ∷ 0x00 ∷ []
+let_of_application = refl
+
 -- `if True then 1 else 2`
 if_then_else : enc (Node ops.If (three (bool true) (num 1) (num 2))) ≡ 0x84 ∷ 0x0E ∷ 0xF5 ∷ 0x82 ∷ 0x0F ∷ 0x01 ∷ 0x82 ∷ 0x0F ∷ 0x02 ∷ []
 if_then_else = refl
@@ -203,6 +230,18 @@ if_then_else = refl
 -- `[] : List Bool`
 empty_list : enc (Node ops.EmptyList (one (app (name_of builtin.List) Bool_))) ≡ 0x82 ∷ 0x04 ∷ 0x64 ∷ 0x42 ∷ 0x6F ∷ 0x6F ∷ 0x6C ∷ []
 empty_list = refl
+
+-- `[] : x y`
+empty_list_at_application : enc (Node ops.EmptyList (one (app (var x_ 0) (var y_ 0)))) ≡ 0x82 ∷ 0x18 ∷ 0x1C ∷ 0x83 ∷ 0x00 ∷ 0x82 ∷ 0x61 ∷ 0x78 ∷ 0x00 ∷ 0x82 ∷ 0x61 ∷ 0x79 ∷ 0x00 ∷ []
+empty_list_at_application = refl
+
+-- `[] : List x y`
+empty_list_at_two_arguments : enc (Node ops.EmptyList (one (app (app (name_of builtin.List) (var x_ 0)) (var y_ 0)))) ≡ 0x82 ∷ 0x18 ∷ 0x1C ∷ 0x84 ∷ 0x00 ∷ 0x64 ∷ 0x4C ∷ 0x69 ∷ 0x73 ∷ 0x74 ∷ 0x82 ∷ 0x61 ∷ 0x78 ∷ 0x00 ∷ 0x82 ∷ 0x61 ∷ 0x79 ∷ 0x00 ∷ []
+empty_list_at_two_arguments = refl
+
+-- `[] : List`
+empty_list_at_list : enc (Node ops.EmptyList (one (name_of builtin.List))) ≡ 0x82 ∷ 0x18 ∷ 0x1C ∷ 0x64 ∷ 0x4C ∷ 0x69 ∷ 0x73 ∷ 0x74 ∷ []
+empty_list_at_list = refl
 
 -- `[] : x`
 empty_list_at_x : enc (Node ops.EmptyList (one (var x_ 0))) ≡ 0x82 ∷ 0x18 ∷ 0x1C ∷ 0x82 ∷ 0x61 ∷ 0x78 ∷ 0x00 ∷ []
@@ -251,6 +290,10 @@ projection_by_type = refl
 -- `< x | y : Bool >`
 union : enc (Node (ops.Union (record { label = x_; typed = false } ∷ record { label = y_; typed = true } ∷ [])) (one Bool_)) ≡ 0x82 ∷ 0x0B ∷ 0xA2 ∷ 0x61 ∷ 0x78 ∷ 0xF6 ∷ 0x61 ∷ 0x79 ∷ 0x64 ∷ 0x42 ∷ 0x6F ∷ 0x6F ∷ 0x6C ∷ []
 union = refl
+
+-- `< x : Bool | y : Natural >`
+union_of_types : enc (Node (ops.Union (record { label = x_; typed = true } ∷ record { label = y_; typed = true } ∷ [])) (two Bool_ Natural_)) ≡ 0x82 ∷ 0x0B ∷ 0xA2 ∷ 0x61 ∷ 0x78 ∷ 0x64 ∷ 0x42 ∷ 0x6F ∷ 0x6F ∷ 0x6C ∷ 0x61 ∷ 0x79 ∷ 0x67 ∷ 0x4E ∷ 0x61 ∷ 0x74 ∷ 0x75 ∷ 0x72 ∷ 0x61 ∷ 0x6C ∷ []
+union_of_types = refl
 
 -- `"hi"`
 text_literal : enc (Node (ops.Text (codes "hi" ∷ [])) end) ≡ 0x82 ∷ 0x12 ∷ 0x62 ∷ 0x68 ∷ 0x69 ∷ []

@@ -342,6 +342,17 @@ small_integer_bignum = (array (u 16 ∷ tagged 2 (b "01") ∷ []), refl, refl, l
 small_negative_bignum : Reads (hex "82 10 C3 40") (int (negsuc 0))
 small_negative_bignum = (array (u 16 ∷ tagged 3 (b "") ∷ []), refl, refl, lit≤ tt)
 
+-- `18446744073709551615`, `-18446744073709551616`
+widest_head : Reads (hex "82 0F 1B FF FF FF FF FF FF FF FF") (num 18446744073709551615)
+widest_head = (array (u 15 ∷ u 18446744073709551615 ∷ []), refl, refl, lit≤ tt)
+
+widest_negative_head : Reads (hex "82 10 3B FF FF FF FF FF FF FF FF") (int (negsuc 18446744073709551615))
+widest_negative_head = (array (u 16 ∷ minus 18446744073709551615 ∷ []), refl, refl, lit≤ tt)
+
+-- `{ _ = True }`
+underscore_key : Reads (hex "82 08 A1 61 5F F5") (singleton underscore (truth true))
+underscore_key = (array (u 8 ∷ map (t "_" ∷ single (simple 21) ∷ []) ∷ []), refl, refl, lit≤ tt)
+
 tag_of_cbor : Reads (hex "D9 D9 F7 F5") (truth true)
 tag_of_cbor = (tagged 55799 (single (simple 21)), refl, refl, lit≤ tt)
 

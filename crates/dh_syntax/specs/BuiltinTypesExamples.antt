@@ -1,13 +1,17 @@
 -- The types of the built-ins are in normal form, and each is in a universe but `Sort`, the type of `Kind`.
-use Rattle.std.specs.Prelude.{◌≡◌, refl, Bool, true, false, List, [], ◌∷◌, Option, Some, None, option_and_then, map}
+use Rattle.std.specs.Prelude.{◌≡◌, refl, ℕ, Bool, true, false, List, [], ◌∷◌, Option, Some, None, option_and_then, map, codes, encode_utf8_all}
+use Rattle.std.specs.Char.{encode_utf8}
+use Rattle.std.specs.Fmt.{digits}
 use Rattle.dh_syntax.specs.declared.operators.Builtin.{Builtin}
 use Rattle.dh_syntax.specs.declared.operators.Builtin.TheVariants as builtins
 use Rattle.dh_syntax.specs.Alpha.{alpha}
 use Rattle.dh_syntax.specs.BuiltinTypes.{type_of}
+use Rattle.dh_syntax.specs.Builtins.{builtins}
 use Rattle.dh_syntax.specs.Heads.{Answer, Found}
 use Rattle.dh_syntax.specs.Named.{names}
 use Rattle.dh_syntax.specs.Nesting.{nesting}
 use Rattle.dh_syntax.specs.Normal.{plain_answer}
+use Rattle.dh_syntax.specs.Printed.{text_of}
 use Rattle.dh_syntax.specs.SameTree.{term_eq}
 use Rattle.dh_syntax.specs.Tree.{Term}
 use Rattle.dh_syntax.specs.TypeViews.{each}
@@ -66,3 +70,23 @@ kind_in_none = refl
 
 sort_has_none : type_of builtins.Sort ≡ None
 sort_has_none = refl
+
+-- ---- the types as they are printed
+
+abbrev printed : Option Term → List ℕ
+printed (Some t) = text_of t
+printed None = []
+
+printed_types : map (λ b. printed (type_of b)) builtins ≡ map (λ s. encode_utf8_all (codes s)) (
+    "Kind" ∷ "Sort" ∷ "" ∷ "Type" ∷ "Type" ∷ "Type" ∷ "Type" ∷ "Type → Type" ∷ "Type → Type" ∷ "∀(A : Type) → Optional A"
+    ∷ "Natural → ∀(natural : Type) → ∀(succ : natural → natural) → ∀(zero : natural) → natural"
+    ∷ "(∀(natural : Type) → ∀(succ : natural → natural) → ∀(zero : natural) → natural) → Natural"
+    ∷ "Natural → Bool" ∷ "Natural → Bool" ∷ "Natural → Bool" ∷ "Natural → Integer" ∷ "Natural → Text" ∷ "Natural → Natural → Natural"
+    ∷ "Integer → Text" ∷ "Integer → Integer" ∷ "Integer → Natural"
+    ∷ "∀(a : Type) → (∀(list : Type) → ∀(cons : a → list → list) → ∀(nil : list) → list) → List a"
+    ∷ "∀(a : Type) → List a → ∀(list : Type) → ∀(cons : a → list → list) → ∀(nil : list) → list"
+    ∷ "∀(a : Type) → List a → Natural" ∷ "∀(a : Type) → List a → Optional a" ∷ "∀(a : Type) → List a → Optional a"
+    ∷ "∀(a : Type) → List a → List { index : Natural, value : a }" ∷ "∀(a : Type) → List a → List a"
+    ∷ "Text → Text" ∷ "∀(needle : Text) → ∀(replacement : Text) → ∀(haystack : Text) → Text" ∷ [])
+unfolding encode_utf8 digits
+printed_types = refl

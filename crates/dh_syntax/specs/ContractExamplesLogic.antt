@@ -23,11 +23,24 @@ if_condition = refl
 if_condition_early : at 2 (if_else p true_literal false_literal) ≡ Nothing
 if_condition_early = refl
 
+-- `if p then True else q`, `if p then q else False`, `if p then False else True`: one literal is not enough
+if_then_true : at 3 (if_else p true_literal q) ≡ IfSame true_literal q true_literal
+if_then_true = refl
+
+if_else_false : at 3 (if_else p q false_literal) ≡ IfSame q false_literal q
+if_else_false = refl
+
+if_negated : at 3 (if_else p false_literal true_literal) ≡ IfSame false_literal true_literal false_literal
+if_negated = refl
+
 -- `if p then q else r`
 if_same : at 3 (if_else p q r) ≡ IfSame q r q
 if_same = refl
 
 -- `True || p`, `False || p`, `p || False`, `p || True`, `p || q`
+or_unheaded : at 0 (operator bins.Or true_literal p) ≡ Nothing
+or_unheaded = refl
+
 or_true : at 1 (operator bins.Or true_literal p) ≡ Gives true_literal
 or_true = refl
 
@@ -47,6 +60,9 @@ or_same : at 2 (operator bins.Or p q) ≡ IfSame p q p
 or_same = refl
 
 -- `False && p`, `True && p`, `p && True`, `p && False`, `p && q`
+and_unheaded : at 0 (operator bins.And false_literal p) ≡ Nothing
+and_unheaded = refl
+
 and_false : at 1 (operator bins.And false_literal p) ≡ Gives false_literal
 and_false = refl
 
@@ -66,11 +82,17 @@ and_same : at 2 (operator bins.And p q) ≡ IfSame p q p
 and_same = refl
 
 -- `True == p`, `False == p`, `p == True`, `p == q`
+equal_unheaded : at 0 (operator bins.Equal true_literal p) ≡ Nothing
+equal_unheaded = refl
+
 equal_true : at 1 (operator bins.Equal true_literal p) ≡ Gives p
 equal_true = refl
 
 equal_false : at 2 (operator bins.Equal false_literal p) ≡ IfSame false_literal p true_literal
 equal_false = refl
+
+equal_right_early : at 1 (operator bins.Equal p true_literal) ≡ Nothing
+equal_right_early = refl
 
 equal_right_true : at 2 (operator bins.Equal p true_literal) ≡ Gives p
 equal_right_true = refl
@@ -79,11 +101,17 @@ equal_same : at 2 (operator bins.Equal p q) ≡ IfSame p q true_literal
 equal_same = refl
 
 -- `False != p`, `True != p`, `p != False`, `p != q`
+unequal_unheaded : at 0 (operator bins.NotEqual false_literal p) ≡ Nothing
+unequal_unheaded = refl
+
 unequal_false : at 1 (operator bins.NotEqual false_literal p) ≡ Gives p
 unequal_false = refl
 
 unequal_true : at 2 (operator bins.NotEqual true_literal p) ≡ IfSame true_literal p false_literal
 unequal_true = refl
+
+unequal_right_early : at 1 (operator bins.NotEqual p false_literal) ≡ Nothing
+unequal_right_early = refl
 
 unequal_right_false : at 2 (operator bins.NotEqual p false_literal) ≡ Gives p
 unequal_right_false = refl

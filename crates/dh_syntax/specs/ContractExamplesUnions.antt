@@ -30,6 +30,10 @@ merge_empty = refl
 merge_unapplied : at 2 (merge with_both (field choice b)) ≡ Nothing
 merge_unapplied = refl
 
+-- `merge { a = p, b = q } < a : Natural | b >.b` is q
+merge_empty_second : at 2 (merge with_both (field (union (record { label = a; typed = true } ∷ record { label = b; typed = false } ∷ []) (natural_type ∷ [])) b)) ≡ Gives q
+merge_empty_second = refl
+
 -- the applied alternative is not looked up in its union
 merge_asks_nothing : at 2 (merge with_both (app (field choice a) r)) ≡ Gives (app p r)
 merge_asks_nothing = refl

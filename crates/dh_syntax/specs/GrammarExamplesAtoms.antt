@@ -145,9 +145,17 @@ field_of_names : Reads "x.Some.True.List" (field (field (field (v "x") some_key)
 unfolding tokens_of
 field_of_names = refl
 
+field_of_false : Reads "x.False" (field (v "x") (truth_key false)) (node (ops.Field (codes "False")) (var "x" ∷ []))
+unfolding tokens_of
+field_of_false = refl
+
 project_read : Reads "x.{ b, a }" (project (v "x") false (more_keys (one_key (key "b")) (key "a")) false) (node (ops.Project (codes "a" ∷ codes "b" ∷ [])) (var "x" ∷ []))
 unfolding tokens_of
 project_read = refl
+
+project_in_order : Reads "x.{ a, b, c }" (project (v "x") false (more_keys (more_keys (one_key (key "a")) (key "b")) (key "c")) false) (node (ops.Project (codes "a" ∷ codes "b" ∷ codes "c" ∷ [])) (var "x" ∷ []))
+unfolding tokens_of
+project_in_order = refl
 
 project_commas : Reads "x.{,a,}" (project (v "x") true (one_key (key "a")) true) (node (ops.Project (codes "a" ∷ [])) (var "x" ∷ []))
 unfolding tokens_of

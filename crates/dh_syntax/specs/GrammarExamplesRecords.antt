@@ -131,5 +131,18 @@ no_field_twice_quoted = refl
 no_alternative_twice : derived (union false (more_alternatives (one_alternative (key "a") untyped) (key "a") (typed (v "x"))) false) ≡ false
 no_alternative_twice = refl
 
+no_alternative_twice_apart : derived (union false (more_alternatives (more_alternatives (one_alternative (key "a") untyped) (key "b") untyped) (key "a") untyped) false) ≡ false
+no_alternative_twice_apart = refl
+
 no_label_twice : derived (project (v "x") false (more_keys (more_keys (one_key (key "b")) (key "a")) (key "b")) false) ≡ false
 no_label_twice = refl
+
+-- behind two equal labels another one may stand
+no_label_twice_before : derived (project (v "x") false (more_keys (more_keys (one_key (key "a")) (key "a")) (key "b")) false) ≡ false
+no_label_twice_before = refl
+
+no_field_twice_before : derived (record_type false (more_fields (more_fields (one_field (key "a") (v "x")) (key "a") (v "y")) (key "b") (v "x")) false) ≡ false
+no_field_twice_before = refl
+
+no_alternative_twice_before : derived (union false (more_alternatives (more_alternatives (one_alternative (key "a") untyped) (key "a") untyped) (key "b") untyped) false) ≡ false
+no_alternative_twice_before = refl

@@ -114,8 +114,8 @@ unfolding lex encode_utf8
 names_and_marks = refl
 
 quoted_names :
-    Reads "`` `if` `a b` `\"${\\` `Double`"
-    (quoted "" ∷ quoted "if" ∷ quoted "a b" ∷ quoted "\"${\\" ∷ quoted "Double" ∷ [])
+    Reads "`` `if` `a b` `\"${\\` `Double` `!}~`"
+    (quoted "" ∷ quoted "if" ∷ quoted "a b" ∷ quoted "\"${\\" ∷ quoted "Double" ∷ quoted "!}~" ∷ [])
 unfolding lex encode_utf8
 quoted_names = refl
 
@@ -167,10 +167,15 @@ no_fraction : Reads "1. 1.x" (Natural 1 ∷ Mark marks.Dot ∷ Natural 1 ∷ Mar
 unfolding lex encode_utf8
 no_fraction = refl
 
+-- no number stands before the point or the `e`
+no_number_before : Reads ".5 e5" (Mark marks.Dot ∷ Natural 5 ∷ named "e5" ∷ [])
+unfolding lex encode_utf8
+no_number_before = refl
+
 -- in `-02` the integer is `-0`, and a 2 follows
 no_date_and_no_time :
-    Reads "2020-1-02 123:45 12:3"
-    (Natural 2020 ∷ Integer (negsuc 0) ∷ Integer (pos 0) ∷ Natural 2 ∷ Natural 123 ∷ Mark marks.Colon ∷ Natural 45
+    Reads "2020-1-02 2020-01-2 123:45 12:3"
+    (Natural 2020 ∷ Integer (negsuc 0) ∷ Integer (pos 0) ∷ Natural 2 ∷ Natural 2020 ∷ Integer (pos 0) ∷ Natural 1 ∷ Integer (negsuc 1) ∷ Natural 123 ∷ Mark marks.Colon ∷ Natural 45
     ∷ Natural 12 ∷ Mark marks.Colon ∷ Natural 3 ∷ [])
 unfolding lex encode_utf8
 no_date_and_no_time = refl
@@ -276,6 +281,11 @@ braces_in_comments = refl
 skipped_lines : lex (utf8 "#!/bin/é\n#!\r\n1") ≡ Ok (spaced (Natural 1) 14 15 ∷ joined End 15 15 ∷ [])
 unfolding lex encode_utf8
 skipped_lines = refl
+
+-- `#` alone skips no line
+no_skipped_line : Reads "#x\n#" (Mark (marks.Operator binary.ListAppend) ∷ named "x" ∷ Mark (marks.Operator binary.ListAppend) ∷ [])
+unfolding lex encode_utf8
+no_skipped_line = refl
 
 skipped_line_alone : lex (utf8 "#! x") ≡ Ok (spaced End 4 4 ∷ [])
 unfolding lex encode_utf8

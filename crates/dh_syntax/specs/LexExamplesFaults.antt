@@ -78,7 +78,7 @@ unfolding lex encode_utf8
 faults_within_what_is_not_closed = refl
 
 quoted_names_that_are_not_closed :
-    AllFault (("`a", Bad 0) ∷ ("`é`", Bad 0) ∷ ("`\u{7f}`", Bad 0) ∷ ("`\n`", Bad 0) ∷ ("x.`a", Bad 2) ∷ [])
+    AllFault (("`a", Bad 0) ∷ ("`é`", Bad 0) ∷ ("`\u{7f}`", Bad 0) ∷ ("`\n`", Bad 0) ∷ ("`\u{1f}`", Bad 0) ∷ ("x.`a", Bad 2) ∷ [])
 unfolding lex encode_utf8
 quoted_names_that_are_not_closed = refl
 
@@ -161,7 +161,7 @@ users_and_bracketed_hosts = refl
 -- the URL or the name before the fault is read
 after_hosts :
     AllFault (("http://a-/b", Bad 8) ∷ ("http://a.-", Bad 9) ∷ ("http://-a", Bad 7) ∷ ("http://h/%4", Bad 9)
-    ∷ ("http://h/%zz", Bad 9) ∷ ("http://h?%", Bad 9) ∷ [])
+    ∷ ("http://h/%zz", Bad 9) ∷ ("http://h/%4z", Bad 9) ∷ ("http://h/%z4", Bad 9) ∷ ("http://h?%", Bad 9) ∷ [])
 unfolding lex encode_utf8
 after_hosts = refl
 

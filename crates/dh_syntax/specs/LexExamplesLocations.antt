@@ -195,6 +195,16 @@ a_digest_and_more :
 unfolding lex encode_utf8
 a_digest_and_more = refl
 
+abbrev counting : List ℕ
+counting = 0x01 ∷ 0x23 ∷ 0x45 ∷ 0x67 ∷ 0x89 ∷ 0xAB ∷ 0xCD ∷ 0xEF ∷ []
+
+-- the high half of a byte comes first
+digest_halves :
+    Reads "sha256:0123456789abcdef0123456789abcdef0123456789abcdef0123456789abcdef"
+    (kinds.Digest (record { 0 = counting ++ counting ++ counting ++ counting }) ∷ [])
+unfolding lex encode_utf8
+digest_halves = refl
+
 no_digest :
     Reads "sha256: sha256:g sha256 :"
     (named "sha256" ∷ kinds.Mark marks.Colon ∷ named "sha256" ∷ kinds.Mark marks.Colon ∷ named "g"

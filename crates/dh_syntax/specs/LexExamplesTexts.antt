@@ -137,6 +137,11 @@ numbered_escapes :
 unfolding lex encode_utf8
 numbered_escapes = refl
 
+-- the last character before the surrogates and the first one after them
+beside_surrogates : Reads "\"\\ud7ff\\uE000\"" (TextOpen DoubleQuoted ∷ piece "\u{d7ff}\u{e000}" ∷ TextClose ∷ [])
+unfolding lex encode_utf8
+beside_surrogates = refl
+
 four_digits_and_a_fifth : Reads "\"\\u00411\"" (TextOpen DoubleQuoted ∷ piece "A1" ∷ TextClose ∷ [])
 unfolding lex encode_utf8
 four_digits_and_a_fifth = refl

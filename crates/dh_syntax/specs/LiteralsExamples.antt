@@ -14,8 +14,8 @@ are_naturals :
 are_naturals = refl
 
 are_integers :
-    map (λ t. is_integer (codes t)) ("+0" ∷ "-12" ∷ "-0xfF" ∷ "1" ∷ "+" ∷ "+00" ∷ "--1" ∷ []) ≡ (true ∷ true ∷ true
-    ∷ false ∷ false ∷ false ∷ false ∷ [])
+    map (λ t. is_integer (codes t)) ("+0" ∷ "-12" ∷ "-0xfF" ∷ "" ∷ "1" ∷ "+" ∷ "+00" ∷ "--1" ∷ []) ≡ (true ∷ true ∷ true
+    ∷ false ∷ false ∷ false ∷ false ∷ false ∷ [])
 are_integers = refl
 
 naturals_read :
@@ -97,6 +97,10 @@ tabs = refl
 -- in `  ${x}` the indentation is two, in ` ${x}` one; what follows an interpolation on its line begins no line
 interpolations : unindented ("  a\n  " ∷ "  b\n   c " ∷ " d" ∷ []) ≡ map codes ("a\n" ∷ "  b\n c " ∷ " d" ∷ [])
 interpolations = refl
+
+-- the lines behind an interpolation count for those before it
+interpolation_less_indented : unindented ("    a\n    " ∷ "\n  b\n   " ∷ []) ≡ map codes ("  a\n  " ∷ "\nb\n " ∷ [])
+interpolation_less_indented = refl
 
 interpolation_first : unindented ("" ∷ "\n  a\n  " ∷ []) ≡ map codes ("" ∷ "\n  a\n  " ∷ [])
 interpolation_first = refl

@@ -1,5 +1,5 @@
 -- Worked examples of locations.
-use Rattle.std.specs.Prelude.{◌≡◌, ℕ, true, false, List, [], ◌∷◌, Some, None, codes, refl}
+use Rattle.std.specs.Prelude.{◌≡◌, ℕ, true, false, List, [], ◌∷◌, map, Some, None, codes, refl}
 use Rattle.dh_syntax.specs.declared.locations.Loc.TheVariants as locs
 use Rattle.dh_syntax.specs.declared.locations.Mode.TheVariants as mode
 use Rattle.dh_syntax.specs.declared.locations.Url.{Url}
@@ -116,6 +116,20 @@ in_input = refl
 in_variable : chain (Some (locs.Env b_)) (locs.Here (a_ ∷ [])) ≡ locs.Here (a_ ∷ [])
 in_variable = refl
 
+-- `./a/../b` in an environment variable is `./b`, and `../a` stays
+path_in_variable : chain (Some (locs.Env b_)) (locs.Here (a_ ∷ up ∷ b_ ∷ [])) ≡ locs.Here (b_ ∷ [])
+path_in_variable = refl
+
+parent_in_variable : chain (Some (locs.Env b_)) (locs.Parent (a_ ∷ [])) ≡ locs.Parent (a_ ∷ [])
+parent_in_variable = refl
+
+-- `./a/../b` in `missing`
+path_in_missing : chain (Some locs.Missing) (locs.Here (a_ ∷ up ∷ b_ ∷ [])) ≡ locs.Here (b_ ∷ [])
+path_in_missing = refl
+
+parent_in_missing : chain (Some locs.Missing) (locs.Parent (a_ ∷ [])) ≡ locs.Parent (a_ ∷ [])
+parent_in_missing = refl
+
 -- `./c` in `./a/b` is `./a/c`
 here_in_here : chain (Some (locs.Here (a_ ∷ b_ ∷ []))) (locs.Here (c_ ∷ [])) ≡ locs.Here (a_ ∷ c_ ∷ [])
 here_in_here = refl
@@ -208,6 +222,9 @@ location_in_web = refl
 web_in_web : sane (Some (locs.Https (url (a_ ∷ [])))) (locs.Http (url (b_ ∷ []))) mode.Code ≡ true
 web_in_web = refl
 
+path_in_web : sane (Some (locs.Http (url (a_ ∷ [])))) (locs.Here (b_ ∷ [])) mode.Code ≡ true
+path_in_web = refl
+
 missing_in_web : sane (Some (locs.Http (url (a_ ∷ [])))) locs.Missing mode.Code ≡ true
 missing_in_web = refl
 
@@ -282,6 +299,9 @@ text_of_variable = refl
 quoted_variable : loc_text (locs.Env (codes "1 x")) ≡ codes "env:\"1 x\""
 quoted_variable = refl
 
+quoted_digit : loc_text (locs.Env (codes "1x")) ≡ codes "env:\"1x\""
+quoted_digit = refl
+
 text_of_missing : loc_text locs.Missing ≡ codes "missing"
 text_of_missing = refl
 
@@ -293,3 +313,13 @@ quoted_component = refl
 
 quoted_marks : loc_text (locs.Here (codes "a,b" ∷ codes "#" ∷ codes "(" ∷ codes "{" ∷ codes "\\" ∷ [])) ≡ codes "./\"a,b\"/\"#\"/\"(\"/\"{\"/\"\\\""
 quoted_marks = refl
+
+-- each beside a character of paths
+marks_that_are_quoted :
+    map (λ c. loc_text (locs.Abs (codes c ∷ []))) (" " ∷ "#" ∷ "(" ∷ ")" ∷ "," ∷ "<" ∷ ">" ∷ "?" ∷ "[" ∷ "\\" ∷ "]" ∷ "{" ∷ "}" ∷ [])
+    ≡ map codes ("/\" \"" ∷ "/\"#\"" ∷ "/\"(\"" ∷ "/\")\"" ∷ "/\",\"" ∷ "/\"<\"" ∷ "/\">\"" ∷ "/\"?\"" ∷ "/\"[\"" ∷ "/\"\\\"" ∷ "/\"]\"" ∷ "/\"{\"" ∷ "/\"}\"" ∷ [])
+marks_that_are_quoted = refl
+
+-- a component of no characters is quoted too
+quoted_nothing : loc_text (locs.Here ([] ∷ [])) ≡ codes "./\"\""
+quoted_nothing = refl

@@ -1,7 +1,7 @@
 -- Typing of nameless expressions: the same types, units, places and rules as with names.
-use Rattle.std.specs.Prelude.{◌≡◌, refl, ℕ, [], ◌∷◌}
+use Rattle.std.specs.Prelude.{◌≡◌, refl, ℕ, [], ◌∷◌, Option, Some, None}
 use Rattle.dh_syntax.specs.ExampleTerms.{x, y, var}
-use Rattle.dh_syntax.specs.Forms.{app, lambda, forall, field, union, merge, record_literal}
+use Rattle.dh_syntax.specs.Forms.{app, lambda, forall, list, field, union, merge, record_literal}
 use Rattle.dh_syntax.specs.Inference.{Judgment, Has, Ill, judged_within}
 use Rattle.dh_syntax.specs.Nameless.{Core, Bare, to_core, bare}
 use Rattle.dh_syntax.specs.NamelessRuns.{cores, bares}
@@ -53,3 +53,45 @@ bare_dependent = refl
 -- `λ(x : Bool) → x + 1`
 bare_plus : bare_inferred 1 (lambda x bool_type (plus (var x 0) one)) ≡ Ill (1 ∷ []) rule.LeftSide
 bare_plus = refl
+
+-- ---- types, without their units
+
+abbrev found : {T : Type 0} → Judgment T → Option T
+found (Has t left) = Some t
+found _ = None
+
+-- `λ(x : Type) → λ(y : x) → λ(a : < a : Bool | b >) → merge { a = λ(x : Bool) → y, b = y } a`: the type y has below the
+-- handler's binder is seen from outside it
+abbrev alternatives : Term
+alternatives = union (holding a ∷ empty b ∷ []) (bool_type ∷ [])
+
+core_handlers : found (core_inferred 100 (
+    lambda x type (lambda y (var x 0) (lambda a alternatives (merge (record_literal ((a, lambda x bool_type (var y 0)) ∷ (b, var y 0) ∷ [])) (var a 0))))))
+    ≡ Some (to_core (forall x type (forall y (var x 0) (forall a alternatives (var x 0)))))
+core_handlers = refl
+
+-- `λ(x : Bool) → λ(x : Natural) → λ(y : Type) → x@1`
+core_outer : found (core_inferred 100 (lambda x bool_type (lambda x natural_type (lambda y type (var x 1)))))
+    ≡ Some (to_core (forall x bool_type (forall x natural_type (forall y type bool_type))))
+core_outer = refl
+
+-- `(λ(x : Type) → λ(y : x) → y) Natural`
+bare_applied : found (bare_inferred 100 (app (lambda x type (lambda y (var x 0) (var y 0))) natural_type)) ≡ Some (bare (forall y natural_type natural_type))
+bare_applied = refl
+
+-- a variable that is not bound
+bare_unbound : bare_inferred 10 (lambda x bool_type (var y 0)) ≡ Ill (1 ∷ []) rule.UnboundVariable
+bare_unbound = refl
+
+-- the argument is mentioned below another binder, in a second part: `assert : (λ(y : Natural) → x) ≡ (λ(y : Natural) → x)`
+abbrev dependent_below : Term
+dependent_below =
+    let constant = lambda y natural_type (var x 0) in
+    merge (record_literal ((b, lambda x bool_type (assert (equivalent constant constant))) ∷ [])) (app (field (union (holding b ∷ []) (bool_type ∷ [])) b) yes')
+
+bare_dependent_below : bare_inferred 100 dependent_below ≡ Ill [] rule.HandlerResultDepends
+bare_dependent_below = refl
+
+-- `[ 1, True ]`
+bare_elements : bare_inferred 10 (list (one ∷ yes' ∷ [])) ≡ Ill [] rule.ElementsDiffer
+bare_elements = refl

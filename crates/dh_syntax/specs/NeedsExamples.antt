@@ -1,5 +1,5 @@
 -- Which parts a row looks at, and in which order.
-use Rattle.std.specs.Prelude.{◌≡◌, refl, [], ◌∷◌}
+use Rattle.std.specs.Prelude.{◌≡◌, refl, [], ◌∷◌, map, replicate}
 use Rattle.dh_syntax.specs.declared.operators.BinOp.TheVariants as bins
 use Rattle.dh_syntax.specs.declared.operators.Builtin.TheVariants as builtins
 use Rattle.dh_syntax.specs.ExampleTerms.{x}
@@ -17,6 +17,15 @@ sum_needs = refl
 
 append_needs : needs (operator bins.TextAppend p q) ≡ []
 append_needs = refl
+
+-- the other operators that look at both sides, and those that look at none
+all_sides :
+    map (λ o. needs (operator o p q)) (bins.Or ∷ bins.And ∷ bins.Equal ∷ bins.NotEqual ∷ bins.Times ∷ bins.ListAppend ∷ bins.Combine ∷ bins.Prefer ∷ bins.CombineTypes ∷ [])
+    ≡ replicate 9 (part 0 ∷ part 1 ∷ [])
+all_sides = refl
+
+no_sides : map (λ o. needs (operator o p q)) (bins.Fallback ∷ bins.Equivalent ∷ bins.Complete ∷ []) ≡ [] ∷ [] ∷ [] ∷ []
+no_sides = refl
 
 -- `"${p}${q}"`
 text_needs : needs (text ([] ∷ [] ∷ [] ∷ []) (p ∷ q ∷ [])) ≡ part 0 ∷ part 1 ∷ []
@@ -57,6 +66,32 @@ fold_short_needs = refl
 
 replace_needs : needs (call builtins.TextReplace (p ∷ q ∷ r ∷ [])) ≡ part 0 ∷ argument 2 ∷ argument 0 ∷ []
 replace_needs = refl
+
+-- `List/fold p q r p q` looks at q, `Natural/subtract p q` at p and then at q
+list_fold_needs : needs (call builtins.ListFold (p ∷ q ∷ r ∷ p ∷ q ∷ [])) ≡ part 0 ∷ argument 3 ∷ []
+list_fold_needs = refl
+
+subtract_needs : needs (call builtins.NaturalSubtract (p ∷ q ∷ [])) ≡ part 0 ∷ argument 1 ∷ argument 0 ∷ []
+subtract_needs = refl
+
+-- the functions of one value look at it, and those of a list at the second argument
+of_value :
+    map (λ b. needs (call b (p ∷ []))) (
+    builtins.NaturalIsZero ∷ builtins.NaturalEven ∷ builtins.NaturalOdd ∷ builtins.NaturalToInteger ∷ builtins.NaturalShow
+    ∷ builtins.IntegerShow ∷ builtins.IntegerNegate ∷ builtins.IntegerClamp ∷ builtins.TextShow ∷ [])
+    ≡ replicate 9 (part 0 ∷ argument 0 ∷ [])
+of_value = refl
+
+of_list :
+    map (λ b. needs (call b (p ∷ q ∷ []))) (builtins.ListLength ∷ builtins.ListHead ∷ builtins.ListLast ∷ builtins.ListIndexed ∷ builtins.ListReverse ∷ [])
+    ≡ replicate 5 (part 0 ∷ argument 0 ∷ [])
+of_list = refl
+
+-- `Natural/build p`, `List/build p q`, and `None p`, which has no row
+of_none :
+    map needs (call builtins.NaturalBuild (p ∷ []) ∷ call builtins.ListBuild (p ∷ q ∷ []) ∷ call builtins.None (p ∷ []) ∷ [])
+    ≡ replicate 3 (part 0 ∷ [])
+of_none = refl
 
 -- a variable, `λ(x : Natural) → p`, `let x = p in q`, `[ p ]`
 variable_needs : needs p ≡ []

@@ -4,7 +4,7 @@ use Rattle.dh_syntax.specs.declared.operators.Builtin.TheVariants as builtins
 use Rattle.dh_syntax.specs.Alpha.{alpha}
 use Rattle.dh_syntax.specs.ExampleTerms.{x, y, var}
 use Rattle.dh_syntax.specs.Forms.{app, call, lambda, forall, let_in, let_typed, list_type}
-use Rattle.dh_syntax.specs.TypingTerms.{type_of, refused, at, at_root, type, kind, sort, bool_type, natural_type, one, yes', ◌⟶◌, optional_type, plus}
+use Rattle.dh_syntax.specs.TypingTerms.{type_of, refused, at, at_root, type, kind, sort, bool_type, natural_type, text_type, one, yes', ◌⟶◌, optional_type, plus}
 
 -- ---- 1, 2: variables and constants
 
@@ -23,6 +23,15 @@ outer = refl
 shifted_type : type_of (lambda x type (lambda y (var x 0) (lambda x bool_type (var y 0))))
     ≡ Some (forall x type (forall y (var x 0) (forall x bool_type (var x 1))))
 shifted_type = refl
+
+-- `λ(x : Bool) → λ(x : Natural) → λ(y : Text) → x@1`: a binder of another name does not count
+outer_past : type_of (lambda x bool_type (lambda x natural_type (lambda y text_type (var x 1))))
+    ≡ Some (forall x bool_type (forall x natural_type (forall y text_type bool_type)))
+outer_past = refl
+
+-- `λ(x : Type) → λ(x : x) → x` has the type `∀(x : Type) → ∀(x : x) → x@1`: the type of a variable is seen from below its own binder
+own_name : type_of (lambda x type (lambda x (var x 0) (var x 0))) ≡ Some (forall x type (forall x (var x 0) (var x 1)))
+own_name = refl
 
 type_type : type_of type ≡ Some kind
 type_type = refl
@@ -46,6 +55,12 @@ polymorphic = refl
 -- `λ(x : Kind) → x`
 of_kind : type_of (lambda x kind (var x 0)) ≡ Some (forall x kind kind)
 of_kind = refl
+
+-- the type of the variable is the normal form of the domain: `λ(x : (λ(y : Kind) → y) Type) → λ(y : x) → y`
+domain_found : type_of (lambda x (app (lambda y kind (var y 0)) type) (lambda y (var x 0) (var y 0)))
+    ≡ Some (forall x type (forall y (var x 0) (var x 0)))
+unfolding alpha
+domain_found = refl
 
 -- `λ(x : Sort) → 1`
 domain_sort : refused (lambda x sort one) ≡ at (0 ∷ []) 2
@@ -90,6 +105,15 @@ forall_domain = refl
 
 forall_domain_ill : refused (forall x (plus one yes') natural_type) ≡ at (0 ∷ []) 14
 forall_domain_ill = refl
+
+-- `∀(x : (λ(y : Kind) → y) Type) → x`
+forall_domain_found : type_of (forall x (app (lambda y kind (var y 0)) type) (var x 0)) ≡ Some type
+unfolding alpha
+forall_domain_found = refl
+
+-- `∀(x : Bool) → 1 + True`
+forall_range_ill : refused (forall x bool_type (plus one yes')) ≡ at (1 ∷ []) 14
+forall_range_ill = refl
 
 forall_range : refused (forall x bool_type (var x 0)) ≡ at_root 6
 forall_range = refl

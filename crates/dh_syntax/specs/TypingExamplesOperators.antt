@@ -43,6 +43,19 @@ if_differ : refused (if_else yes' one letter) ≡ at_root 12
 unfolding alpha
 if_differ = refl
 
+-- the first branch is the one that must be in Type, and that is asked before they are compared
+if_first_type : refused (if_else yes' natural_type one) ≡ at_root 11
+if_first_type = refl
+
+if_second_type : refused (if_else yes' one natural_type) ≡ at_root 12
+unfolding alpha
+if_second_type = refl
+
+-- of two types that differ only in names the first one: `if True then λ(x : Bool) → x else λ(y : Bool) → y`
+if_names : type_of (if_else yes' (lambda x bool_type (var x 0)) (lambda y bool_type (var y 0))) ≡ Some (forall x bool_type bool_type)
+unfolding alpha
+if_names = refl
+
 if_part_ill : refused (if_else one one (plus one yes')) ≡ at (2 ∷ []) 14
 if_part_ill = refl
 
@@ -100,6 +113,23 @@ append_lists_right : refused (operator bins.ListAppend (list (one ∷ [])) (list
 unfolding alpha
 append_lists_right = refl
 
+-- where both sides are wrong the left one is refused
+plus_both : refused (plus yes' yes') ≡ at_root 13
+plus_both = refl
+
+append_lists_both : refused (operator bins.ListAppend one one) ≡ at_root 13
+append_lists_both = refl
+
+-- an optional value is no list
+append_optional : refused (operator bins.ListAppend (some one) (some one)) ≡ at_root 13
+append_optional = refl
+
+-- of two types that differ only in names the left one: `[ λ(x : Bool) → x ] # [ λ(y : Bool) → y ]`
+append_lists_names : type_of (operator bins.ListAppend (list (lambda x bool_type (var x 0) ∷ [])) (list (lambda y bool_type (var y 0) ∷ [])))
+    ≡ Some (list_type (forall x bool_type bool_type))
+unfolding alpha
+append_lists_names = refl
+
 -- both sides are typed before the checks
 plus_sides_ill : refused (plus yes' (plus one yes')) ≡ at (1 ∷ []) 14
 plus_sides_ill = refl
@@ -138,6 +168,14 @@ elements_other_names = refl
 
 elements_types : refused (list (bool_type ∷ [])) ≡ at_root 16
 elements_types = refl
+
+-- the first element must be in Type, and that is asked before the others are compared with it
+elements_first : refused (list (natural_type ∷ one ∷ [])) ≡ at_root 16
+elements_first = refl
+
+elements_second : refused (list (one ∷ natural_type ∷ [])) ≡ at_root 17
+unfolding alpha
+elements_second = refl
 
 elements_differ : refused (list (one ∷ two ∷ yes' ∷ [])) ≡ at_root 17
 unfolding alpha
@@ -211,6 +249,11 @@ sides = refl
 sides_differ : refused (equivalent one yes') ≡ at_root 50
 unfolding alpha
 sides_differ = refl
+
+-- `Bool ≡ 1`: the sides are compared first
+sides_differ_first : refused (equivalent bool_type one) ≡ at_root 50
+unfolding alpha
+sides_differ_first = refl
 
 -- `Bool ≡ Natural`
 sides_types : refused (equivalent bool_type natural_type) ≡ at_root 51

@@ -92,6 +92,11 @@ select_shifted : type_of (lambda b type (field (union (holding b ∷ []) (var b 
     ≡ Some (forall b type (forall b (var b 0) (union (holding b ∷ []) (var b 1 ∷ []))))
 select_shifted = refl
 
+-- `< a : Bool | b : Natural >.b`: each alternative has its own type
+select_second : type_of (field (union (holding a ∷ holding b ∷ []) (bool_type ∷ natural_type ∷ [])) b)
+    ≡ Some (forall b natural_type (union (holding a ∷ holding b ∷ []) (bool_type ∷ natural_type ∷ [])))
+select_second = refl
+
 -- `let x = < a | b : Natural > in x.a`, and a union that contraction finds: `{ c = < a | b : Natural > }.c.a`
 select_named : type_of (let_in x choice (field (var x 0) a)) ≡ Some choice
 select_named = refl
@@ -181,6 +186,9 @@ combine_inside = refl
 
 combine_left : refused (operator bins.Combine one both) ≡ at_root 28
 combine_left = refl
+
+combine_both : refused (operator bins.Combine one one) ≡ at_root 28
+combine_both = refl
 
 combine_right : refused (operator bins.Combine both one) ≡ at_root 29
 combine_right = refl

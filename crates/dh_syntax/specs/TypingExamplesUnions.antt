@@ -5,7 +5,7 @@ use Rattle.dh_syntax.specs.ExampleTerms.{x, y, var}
 use Rattle.dh_syntax.specs.Forms.{app, lambda, forall, list_type, some, none, union, field, merge, record_type, record_literal, to_map, to_map_typed}
 use Rattle.dh_syntax.specs.RowTerms.{a, b}
 use Rattle.dh_syntax.specs.Tree.{Term}
-use Rattle.dh_syntax.specs.TypingTerms.{type_of, refused, at, at_root, type, sort, bool_type, natural_type, text_type, one, two, yes', letter, plus, equivalent, assert, merge_typed, empty, holding, with_type, with_field}
+use Rattle.dh_syntax.specs.TypingTerms.{type_of, refused, at, at_root, type, sort, bool_type, natural_type, text_type, one, two, yes', letter, optional_type, plus, equivalent, assert, merge_typed, empty, holding, with_type, with_field}
 
 -- ---- `merge`
 
@@ -45,10 +45,26 @@ merge_shifted : type_of (
 unfolding alpha
 merge_shifted = refl
 
+-- of the handlers' types the first one, also where an annotation stands beside it:
+-- `merge { a = λ(x : Bool) → x, b = λ(b : Bool) → λ(y : Bool) → y } (< a | b : Bool >.b True)`
+abbrev named_handlers : Term
+named_handlers = handlers (lambda x bool_type (var x 0)) (lambda b bool_type (lambda y bool_type (var y 0)))
+
+merge_names : type_of (merge named_handlers chosen) ≡ Some (forall x bool_type bool_type)
+unfolding alpha
+merge_names = refl
+
+merge_annotated_names : type_of (merge_typed named_handlers chosen (forall y bool_type bool_type)) ≡ Some (forall x bool_type bool_type)
+unfolding alpha
+merge_annotated_names = refl
+
 -- 34, 35
 handlers_value : refused (merge one chosen) ≡ at_root 34
 unfolding alpha
 handlers_value = refl
+
+merge_of_values : refused (merge one one) ≡ at_root 34
+merge_of_values = refl
 
 merge_of_value : refused (merge (handlers one one) one) ≡ at_root 35
 merge_of_value = refl
@@ -175,6 +191,30 @@ map_annotation_form = refl
 map_annotation_key : refused (to_map_typed (record_literal []) (list_type (record_type ((codes "mapKey", natural_type) ∷ (codes "mapValue", text_type) ∷ [])))) ≡ at_root 45
 unfolding alpha
 map_annotation_key = refl
+
+-- the labels of an entry, and no others
+map_annotation_labels : refused (to_map_typed (record_literal []) (list_type (record_type ((codes "key", text_type) ∷ (codes "mapValue", text_type) ∷ [])))) ≡ at_root 45
+unfolding alpha
+map_annotation_labels = refl
+
+map_annotation_value : refused (to_map_typed (record_literal []) (list_type (record_type ((codes "mapKey", text_type) ∷ (codes "value", text_type) ∷ [])))) ≡ at_root 45
+unfolding alpha
+map_annotation_value = refl
+
+map_annotation_more :
+    refused (to_map_typed (record_literal []) (list_type (record_type ((codes "mapKey", text_type) ∷ (codes "mapValue", text_type) ∷ (codes "z", text_type) ∷ [])))) ≡ at_root 45
+unfolding alpha
+map_annotation_more = refl
+
+-- a map is a list
+map_annotation_optional :
+    refused (to_map_typed (record_literal []) (optional_type (record_type ((codes "mapKey", text_type) ∷ (codes "mapValue", text_type) ∷ [])))) ≡ at_root 45
+unfolding alpha
+map_annotation_optional = refl
+
+-- the fields come before the annotation: `toMap { a = Natural } : Bool`
+map_fields_first : refused (to_map_typed (with_field a natural_type) bool_type) ≡ at_root 43
+map_fields_first = refl
 
 map_annotation_sort : refused (to_map_typed (record_literal []) sort) ≡ at_root 45
 map_annotation_sort = refl

@@ -4,12 +4,12 @@ use Rattle.std.specs.Prelude.{◌≡◌, refl, [], ◌∷◌, codes}
 use Rattle.dh_syntax.specs.declared.operators.BinOp.TheVariants as bins
 use Rattle.dh_syntax.specs.Alpha.{alpha}
 use Rattle.dh_syntax.specs.ExampleTerms.{x, y, var}
-use Rattle.dh_syntax.specs.Forms.{operator, if_else, app, lambda, forall, let_in, let_typed, list, empty_list, list_type, some, record_type, record_literal, field, projection_by_type, union, merge, to_map, to_map_typed, update, annotation}
+use Rattle.dh_syntax.specs.Forms.{operator, if_else, app, lambda, forall, let_in, let_typed, list, empty_list, list_type, some, record_type, record_literal, field, projection, projection_by_type, union, merge, to_map, to_map_typed, update, annotation}
 use Rattle.dh_syntax.specs.Inference.{Has, Ill, IsOver}
 use Rattle.dh_syntax.specs.RowTerms.{a, b, c}
 use Rattle.dh_syntax.specs.Tree.{Term}
 use Rattle.dh_syntax.specs.TypeRules as rule
-use Rattle.dh_syntax.specs.TypingTerms.{inferred, type, bool_type, natural_type, text_type, one, two, yes', ◌⟶◌, optional_type, plus, equivalent, assert, empty, holding, with_type, with_field}
+use Rattle.dh_syntax.specs.TypingTerms.{inferred, type, bool_type, natural_type, text_type, one, two, yes', ◌⟶◌, optional_type, plus, equivalent, assert, merge_typed, empty, holding, with_type, with_field}
 
 -- ---- literals, operators, `if`
 
@@ -55,6 +55,12 @@ contracted_range : inferred 35 (app lifted (lambda a type (var a 0))) ≡ Has (f
 unfolding alpha
 contracted_range = refl
 
+-- `λ(x : (λ(a : Type) → a) Natural) → x`: in the domain the type of the function (1 + 3) and the range `Type` (1); the domain
+-- contracts to Natural (2), and that stands in the type `∀(x : Natural) → Natural` (3)
+found_domain : inferred 10 (lambda x (app (lambda a type (var a 0)) natural_type) (var x 0)) ≡ Has (forall x natural_type natural_type) 0
+unfolding alpha
+found_domain = refl
+
 -- ---- `let`
 
 -- `let x = 1 in x + x`: the value
@@ -78,6 +84,11 @@ let_fields : inferred 15 (let_in x (record_literal ((a, one) ∷ (b, two) ∷ []
 unfolding alpha
 let_fields = refl
 
+-- `let x = 1 + 1 in assert : x ≡ 2`: the value (2), and in its normal form in the body the equivalence (3)
+let_normal : inferred 5 (let_in x (plus one one) (assert (equivalent (var x 0) two))) ≡ Has (equivalent two two) 0
+unfolding alpha
+let_normal = refl
+
 -- ---- lists and optional values
 
 elements : inferred 3 (list (one ∷ two ∷ [])) ≡ Has (list_type natural_type) 0
@@ -98,6 +109,21 @@ no_elements = refl
 select : inferred 3 (field (record_literal ((a, one) ∷ (b, yes') ∷ [])) a) ≡ Has natural_type 0
 select = refl
 
+-- `{ a = 1, b = True }.c`: to refuse it the record itself is normalised too (3)
+select_nothing : inferred 6 (field (record_literal ((a, one) ∷ (b, yes') ∷ [])) c) ≡ Ill [] rule.NothingToSelect
+select_nothing = refl
+
+select_nothing_over : inferred 5 (field (record_literal ((a, one) ∷ (b, yes') ∷ [])) c) ≡ IsOver
+select_nothing_over = refl
+
+-- `{ a = 1, b = True }.{ b }`: the type of the record (3), and `{ b : Bool }` (2)
+project : inferred 5 (projection (record_literal ((a, one) ∷ (b, yes') ∷ [])) (b ∷ [])) ≡ Has (with_type b bool_type) 0
+project = refl
+
+-- `1.({ b : Bool })`: the type is not normalised where there is no record
+project_value : inferred 0 (projection_by_type one (with_type b bool_type)) ≡ Ill [] rule.TypedProjectionNoRecord
+project_value = refl
+
 -- `{ a = 1, b = True }.({ b : Bool })`: the type of the record (3), and the record type (2)
 project_by_type : inferred 5 (projection_by_type (record_literal ((a, one) ∷ (b, yes') ∷ [])) (with_type b bool_type)) ≡ Has (with_type b bool_type) 0
 unfolding alpha
@@ -106,6 +132,10 @@ project_by_type = refl
 -- `{ a = 1 } ⫽ { b = True }`: the types of both records (2 + 2), and that of the whole (3)
 prefer : inferred 7 (operator bins.Prefer (with_field a one) (with_field b yes')) ≡ Has (record_type ((a, natural_type) ∷ (b, bool_type) ∷ [])) 0
 prefer = refl
+
+-- `{ a = 1 } ∧ { b = True }`, likewise
+combine : inferred 7 (operator bins.Combine (with_field a one) (with_field b yes')) ≡ Has (record_type ((a, natural_type) ∷ (b, bool_type) ∷ [])) 0
+combine = refl
 
 -- `{ a : Natural } ⩓ { b : Bool }`: both sides; the type is a universe
 combine_types : inferred 4 (operator bins.CombineTypes (with_type a natural_type) (with_type b bool_type)) ≡ Has type 0
@@ -136,6 +166,10 @@ merged : inferred 17 (merge (record_literal ((a, one) ∷ (b, lambda x bool_type
 unfolding alpha
 merged = refl
 
+-- `λ(x : <>) → merge {=} x : Bool`: the domain (1), the type of the handlers (1), the annotation (1), and the type of the whole (3)
+merged_nothing : inferred 6 (lambda x (union [] []) (merge_typed (record_literal []) (var x 0) bool_type)) ≡ Has (forall x (union [] []) bool_type) 0
+merged_nothing = refl
+
 -- `List { mapKey : Text, mapValue : Natural }`
 abbrev map_type : Term
 map_type = list_type (record_type ((codes "mapKey", text_type) ∷ (codes "mapValue", natural_type) ∷ []))
@@ -148,6 +182,11 @@ mapped = refl
 mapped_annotated : inferred 13 (to_map_typed (with_field a one) map_type) ≡ Has map_type 0
 unfolding alpha
 mapped_annotated = refl
+
+-- without fields the annotation is the type: `{}` (1), and as before (1 + 5)
+mapped_empty : inferred 7 (to_map_typed (record_literal []) map_type) ≡ Has map_type 0
+unfolding alpha
+mapped_empty = refl
 
 -- `{ Type = { a : Natural, b : Bool }, default = { a = 1 } }`, which costs 2 for the type of `{ a = 1 }` and 4 for
 -- `{ Type : Type, default : { a : Natural } }`
@@ -176,3 +215,7 @@ free_universe = refl
 annotated : inferred 1 (annotation one natural_type) ≡ Has natural_type 0
 unfolding alpha
 annotated = refl
+
+-- `assert : 1`: what is no type is not normalised
+asserted_value : inferred 0 (assert one) ≡ Ill [] rule.AssertionNotInType
+asserted_value = refl
