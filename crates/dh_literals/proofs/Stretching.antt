@@ -28,17 +28,17 @@ further-lengthened front n (UpTo text m) = let e : suc (n + m) ≡ suc n + m = o
 further-lengthened front n (FaultAt m) = let e : suc (n + m) ≡ suc n + m = omega arith in ap FaultAt e
 
 -- a stretch by the character at its front
-by_first : (at : List ℕ → Character) (b n : ℕ) (bs front : List ℕ) → n ≤ length bs → at (b ∷ bs) ≡ Reads front (suc n) → stretch at 0 (b ∷ bs) ≡ onto front (suc n) (stretch at 0 (drop n bs))
+pub by_first : (at : List ℕ → Character) (b n : ℕ) (bs front : List ℕ) → n ≤ length bs → at (b ∷ bs) ≡ Reads front (suc n) → stretch at 0 (b ∷ bs) ≡ onto front (suc n) (stretch at 0 (drop n bs))
 by_first at b n bs front h e = ap (λ c. by_character c (λ k. stretch at k bs)) e ∙ ap (further front) (stretch-skip at n bs h) ∙ further-lengthened front n (stretch at 0 (drop n bs))
 
 -- a character's first byte tells how many follow
-record HasHead (c : ℕ) : Type 0 where
-  head : ℕ
-  tail : List ℕ
-  is : encode c ≡ head ∷ tail
-  counts : continuation_len head ≡ length tail
+pub record HasHead (c : ℕ) : Type 0 where
+  pub head : ℕ
+  pub tail : List ℕ
+  pub is : encode c ≡ head ∷ tail
+  pub counts : continuation_len head ≡ length tail
 
-has_head : (c : ℕ) → Shape c → HasHead c
+pub has_head : (c : ℕ) → Shape c → HasHead c
 has_head c (of1 h e) = record { head = c; tail = []; is = e; counts = grind (arith, nat_tests) }
 has_head c (of2 a b l h f s e) = record { head = a; tail = b ∷ []; is = e; counts = grind (arith, nat_tests) }
 has_head c (of3 a b d l h f g s e) = record { head = a; tail = b ∷ d ∷ []; is = e; counts = grind (arith, nat_tests) }

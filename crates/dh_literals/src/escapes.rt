@@ -9,7 +9,8 @@ use crate::faults::LitFault;
 use dh_syntax::Piece;
 use std::alloc::Global;
 
-/// A text that stands between double quotes, with its escapes read.
+/// A text that stands between double quotes, with its escapes read ("double-quote-chunk" of `dhall.abnf`). `BadEscape`
+/// comes exactly at the first backslash that begins no escape.
 pub fn unescape(alloc: Global, inner: &str) -> Result<Piece, LitFault>
     ensures ok { IfOk result (λ piece. unescape inner.now ≡ Ok piece) }
     ensures fault { IfErr result (IsFault (unescape inner.now)) }
@@ -28,8 +29,9 @@ pub fn unescape(alloc: Global, inner: &str) -> Result<Piece, LitFault>
     Ok(Piece::of(text))
 }
 
-// The character of an escape whose backslash stands before the text, and how many bytes of the text it takes.
-fn read_escape(text: &str) -> Option<(char, usize)>
+/// The character of an escape whose backslash stands before the text, and how many bytes of the text it takes
+/// ("double-quote-escaped" of `dhall.abnf`). `None` exactly where it begins no escape.
+pub fn read_escape(text: &str) -> Option<(char, usize)>
     ensures { IsRead (escaped text.now) 1 text.now result }
 {
     match text.as_bytes().first()? {

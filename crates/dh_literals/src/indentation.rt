@@ -9,7 +9,7 @@ use dh_syntax::{Many, Piece, Pieces};
 use std::alloc::{AllocError, Global};
 
 /// The pieces between the interpolations of a multi-line text, whose lines end with line feeds, without the
-/// indentation that all of its lines share.
+/// indentation that all of its lines share (the standard's "Multi-line literals").
 pub fn unindent(alloc: Global, pieces: Pieces) -> Result<Pieces, AllocError>
     ensures { IfOk result (λ made. made ≡ unindent pieces) }
 {

@@ -8,7 +8,7 @@ mod indentation;
 pub mod laws;
 mod numbers;
 
-pub use escapes::unescape;
+pub use escapes::{read_escape, unescape};
 pub use escaping::escape;
 pub use faults::LitFault;
 pub use indentation::unindent;
