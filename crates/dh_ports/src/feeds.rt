@@ -1,4 +1,4 @@
-ghost use Rattle.std.specs.Prelude.{◌≡◌, ℕ, ◌≤◌, List, None, Option, OnErr};
+ghost use Rattle.std.specs.Prelude.{◌≡◌, ℕ, ◌≤◌, List, None, Option, OnOk, OnErr};
 ghost use Rattle.std.specs.Io.{ReadsAtMost};
 ghost use Rattle.std.specs.Io.KnownBytes.{ReadConsumes};
 ghost use Rattle.dh_ports.specs.Counts.{Rose};
@@ -19,10 +19,12 @@ pub trait Feed {
     ghost faults: { Self → ℕ };
 
     /// Reads into the front of `into` and answers how many bytes came: 0 for a nonempty piece only at the end.
-    /// What is left loses just these bytes, and nothing where the read failed.
+    /// What is left loses just these bytes, and nothing where the read failed. The count of faults rises where the read
+    /// failed, and nowhere else.
     fn read(&mut self, into: &mut [u8]) -> Result<usize, ReadError>
         ensures bound { ReadsAtMost result into.new }
         ensures bytes { ReadConsumes (left self.old) (left self.new) result into.new }
         ensures counted { faults self.old ≤ faults self.new }
+        ensures quiet { OnOk result (faults self.new ≡ faults self.old) }
         ensures failed { OnErr result (Rose (faults self.old) (faults self.new)) };
 }

@@ -1,4 +1,4 @@
-ghost use Rattle.std.specs.Prelude.{◌≡◌, ℕ, ◌<◌, ◌≤◌, List, None, Option, length, IfOk, OnErr};
+ghost use Rattle.std.specs.Prelude.{◌≡◌, ℕ, ◌<◌, ◌≤◌, List, None, Option, length, IfOk, OnOk, OnErr};
 ghost use Rattle.std.specs.Io.{WritesAtMost};
 ghost use Rattle.std.specs.Io.KnownBytes.{WriteAppends};
 ghost use Rattle.dh_ports.specs.Counts.{Rose};
@@ -19,11 +19,13 @@ pub trait Sink {
     ghost faults: { Self → ℕ };
 
     /// Takes bytes from the front of the piece, at least one of a nonempty piece, and answers how many. What was
-    /// written grows by just these bytes, and by nothing where the write failed.
+    /// written grows by just these bytes, and by nothing where the write failed. The count of faults rises where the
+    /// write failed, and nowhere else.
     fn write(&mut self, bytes: &[u8]) -> Result<usize, WriteError>
         ensures bound { WritesAtMost result bytes.now }
         ensures goes_on { IfOk result (λ n. 0 < length bytes.now → 0 < n) }
         ensures bytes { WriteAppends (written self.old) (written self.new) result bytes.now }
         ensures counted { faults self.old ≤ faults self.new }
+        ensures quiet { OnOk result (faults self.new ≡ faults self.old) }
         ensures failed { OnErr result (Rose (faults self.old) (faults self.new)) };
 }

@@ -14,7 +14,7 @@ use Rattle.dh_top.specs.Replies.{written, Encodes, Performs}
 use Rattle.dh_top.specs.declared.words.Verb as program
 use Rattle.dh_top.specs.declared.words.Verb.TheVariants as verb
 use Rattle.dh_top.specs.Verbs.{asked}
-use Rattle.dh_top.specs.Runs.{Input, Makes, answers, cannot_read, IsRead, reading, most_read}
+use Rattle.dh_top.specs.Runs.{Input, Makes, answers, cannot_read, IsRead, IsQuiet, reading, most_read}
 
 -- the reply to what a text is parsed to
 pub encodes_any : (r : Result Reply AllocError) (text : List ℕ) (o : Result Term ParseFault) → ParsesTo text o
@@ -47,24 +47,24 @@ answered n words text bytes w m c e r = encodes r.outcome c (parses_whole n text
 
 -- the reading of a command
 is_read : (words : List Word) (v : Verb) (text : List ℕ) (input : Input) → command_of words ≡ Ok v
-    → IfSome input.before (λ left. text ≡ left) → Consumes input.before input.after (take most_read text) → IsRead (command_of words) text input
-is_read words v text input c all taken = subst (λ r. IsRead r text input) (sym c) (all, taken)
+    → IfSome input.before (λ left. text ≡ left) → Consumes input.before input.after (take most_read text) → IsQuiet input → IsRead (command_of words) text input
+is_read words v text input c all taken quiet = subst (λ r. IsRead r text input) (sym c) (all, taken, quiet)
 
 made : (n : ℕ) (before after : Option (List ℕ)) (f g : ℕ) (words : List Word) (bytes : List ℕ) (w : Written) → n ≡ 1048577 → command_of words ≡ Ok encode
-    → Consumes before after bytes → IfSome before (λ left. bytes ≡ take n left) → Encodes ParsesTo bytes w → Makes ParsesTo words (reading before after f g) w
-made n None after f g words bytes w m c taken all r =
-    answers bytes (is_read words encode bytes (reading None after f g) c tt tt) (encodes r.outcome c r.parses r.writes)
-made n (Some left) after f g words bytes w m c taken all r =
+    → Consumes before after bytes → IfSome before (λ left. bytes ≡ take n left) → g ≡ f → Encodes ParsesTo bytes w → Makes ParsesTo words (reading before after f g) w
+made n None after f g words bytes w m c taken all quiet r =
+    answers bytes (is_read words encode bytes (reading None after f g) c tt tt quiet) (encodes r.outcome c r.parses r.writes)
+made n (Some left) after f g words bytes w m c taken all quiet r =
     let part : bytes ≡ take 1048577 left = subst (λ k. bytes ≡ take k left) m all in
-    answers left (is_read words encode left (reading (Some left) after f g) c refl (subst (Consumes (Some left) after) part taken))
+    answers left (is_read words encode left (reading (Some left) after f g) c refl (subst (Consumes (Some left) after) part taken) quiet)
     (answered n words left bytes w m c all r)
 
 -- `encode` on what was read
 pub performs_encode : (n : ℕ) (before after : Option (List ℕ)) (f g : ℕ) (bytes : List ℕ) (r : Result Reply AllocError) → n ≡ 1048577
-    → Consumes before after bytes → IfSome before (λ left. bytes ≡ take n left) → IfOk r (λ x. Encodes ParsesTo bytes (written x))
+    → Consumes before after bytes → IfSome before (λ left. bytes ≡ take n left) → g ≡ f → IfOk r (λ x. Encodes ParsesTo bytes (written x))
     → IfOk r (λ x. Performs ParsesTo encode (reading before after f g) (written x))
-performs_encode n before after f g bytes (Ok x) m taken all h = λ words c. made n before after f g words bytes (written x) m c taken all h
-performs_encode n before after f g bytes (Err e) m taken all h = tt
+performs_encode n before after f g bytes (Ok x) m taken all quiet h = λ words c. made n before after f g words bytes (written x) m c taken all quiet h
+performs_encode n before after f g bytes (Err e) m taken all quiet h = tt
 
 -- an input that could not be read
 pub performs_unread : (v : Verb) (input : Input) (r : Result Reply AllocError) → Rose input.faults_before input.faults_after → IfOk r (λ x. written x ≡ unread)
@@ -79,10 +79,10 @@ made_by_words words v input (Ok x) c h = h words c
 made_by_words words v input (Err e) c h = tt
 
 -- words that are no command line
-pub made_misused : (words : List Word) (k : ℕ) (input : Input) (r : Result Reply AllocError) → command_of words ≡ Err k → Keeps input.before input.after
+pub made_misused : (words : List Word) (k : ℕ) (input : Input) (r : Result Reply AllocError) → command_of words ≡ Err k → Keeps input.before input.after → IsQuiet input
     → IfOk r (λ x. written x ≡ misused k) → IfOk r (λ x. Makes ParsesTo words input (written x))
-made_misused words k input (Ok x) c kept h = answers [] (subst (λ r. IsRead r [] input) (sym c) kept) (usage k c h)
-made_misused words k input (Err e) c kept h = tt
+made_misused words k input (Ok x) c kept quiet h = answers [] (subst (λ r. IsRead r [] input) (sym c) (kept, quiet)) (usage k c h)
+made_misused words k input (Err e) c kept quiet h = tt
 
 pub keeps_itself : (a : Option (List ℕ)) → Keeps a a
 keeps_itself None = tt
@@ -90,7 +90,7 @@ keeps_itself (Some x) = refl
 
 -- a command on what was read; `bytes` is seen through a slice
 pub performs_command : (v : program.Verb) (n : ℕ) (before after : Option (List ℕ)) (f g : ℕ) (bytes seen : List ℕ) (r : Result Reply AllocError) → n ≡ 1048577
-    → Consumes before after bytes → IfSome before (λ left. bytes ≡ take n left) → seen ≡ bytes → IfOk r (λ x. Encodes ParsesTo seen (written x))
+    → Consumes before after bytes → IfSome before (λ left. bytes ≡ take n left) → g ≡ f → seen ≡ bytes → IfOk r (λ x. Encodes ParsesTo seen (written x))
     → IfOk r (λ x. Performs ParsesTo (asked v) (reading before after f g) (written x))
-performs_command verb.Encode n before after f g bytes seen r m taken all e h =
-    performs_encode n before after f g bytes r m taken all (subst (λ b. IfOk r (λ x. Encodes ParsesTo b (written x))) e h)
+performs_command verb.Encode n before after f g bytes seen r m taken all quiet e h =
+    performs_encode n before after f g bytes r m taken all quiet (subst (λ b. IfOk r (λ x. Encodes ParsesTo b (written x))) e h)

@@ -6,11 +6,11 @@ use Rattle.std.specs.Prelude.{MatchBool}
 use Rattle.std.proofs.Math.Seq.{take-append_seam}
 use Rattle.dh_top.specs.Runs.{most_read}
 
--- the bytes so far were taken from the input, and no count fell
+-- the bytes so far were taken from the input, and no read failed
 pub record HasTaken (first now : Option (List ℕ)) (bytes : List ℕ) (faults_first faults_now : ℕ) : Type 0 where
   pub taken : Consumes first now bytes
   pub bound : length bytes ≤ most_read
-  pub counted : faults_first ≤ faults_now
+  pub quiet : faults_now ≡ faults_first
 
 -- what one read takes and what the next one takes, together
 pub consumes_both : (a b c : Option (List ℕ)) (bs cs : List ℕ) → Consumes a b bs → Consumes b c cs → Consumes a c (bs ++ cs)

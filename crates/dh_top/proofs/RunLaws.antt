@@ -1,5 +1,5 @@
 -- What a run says of its words and of its devices.
-use Rattle.std.proofs.Common.{◌≡◌, ◌⊎◌, inl, inr, ℕ, List, Option, Some, None, Result, Ok, Err, IfOk, IfSome, refl, sym, ap, ◌∙◌, subst}
+use Rattle.std.proofs.Common.{◌≡◌, ◌⊎◌, inl, inr, ℕ, ◌<◌, arith, List, Option, Some, None, Result, Ok, Err, IfOk, IfSome, refl, sym, ap, ◌∙◌, subst}
 use Rattle.std.specs.Prelude.{IsErr}
 use Rattle.dh_ports.specs.Counts.{Rose}
 use Rattle.dh_syntax.specs.declared.faults.ParseFault.{ParseFault}
@@ -12,7 +12,7 @@ use Rattle.dh_parse.specs.SmallSpelling.{ParsesTo}
 use Rattle.std.specs.declared.alloc.AllocError.{AllocError}
 use Rattle.dh_top.specs.declared.replies.Reply.{Reply}
 use Rattle.dh_top.specs.Replies.{written}
-use Rattle.dh_top.specs.Runs.{Input, Output, Makes, answers, cannot_read, lacks_memory, Delivers, whole, out_failed, err_failed, Runs, AreMisused, ReadFailed, Works, Gains, IsRead, reading}
+use Rattle.dh_top.specs.Runs.{Input, Output, Makes, answers, cannot_read, lacks_memory, Delivers, whole, out_failed, err_failed, Runs, AreMisused, ReadFailed, Works, Gains, IsRead, IsQuiet, reading}
 
 abbrev Parses : Type 1
 Parses = List ℕ → Result Term ParseFault → Type 0
@@ -119,6 +119,40 @@ delivered_write words w out err s d (err_failed g h e) u = inr h.failed
 pub write_only : (P : Parses) (words : List Word) (input : Input) (out err : Output) (s : Status) → Runs P words input out err s → s ≡ status.Write
     → Rose out.faults_before out.faults_after ⊎ Rose err.faults_before err.faults_after
 write_only P words input out err s r u = delivered_write words r.written out err s (ended P words input r.written r.makes) r.delivers u
+
+-- a write that failed is told
+delivered_failure : (w : Written) (out err : Output) (s : Status) → Delivers w out err s → (out.faults_before < out.faults_after) ⊎ (err.faults_before < err.faults_after)
+    → s ≡ status.Write
+delivered_failure w out err s (whole g h e) (inl r) = absurd (let q = g.quiet in omega (arith, r, q))
+delivered_failure w out err s (whole g h e) (inr r) = absurd (let q = h.quiet in omega (arith, r, q))
+delivered_failure w out err s (out_failed g h e) r = e
+delivered_failure w out err s (err_failed g h e) r = e
+
+pub write_always : (P : Parses) (words : List Word) (input : Input) (out err : Output) (s : Status) → Runs P words input out err s
+    → (out.faults_before < out.faults_after) ⊎ (err.faults_before < err.faults_after) → s ≡ status.Write
+write_always P words input out err s r f = delivered_failure r.written out err s r.delivers f
+
+-- a read that failed is told, unless its line could not be written or memory was wanting
+read_quiet : (c : Result Verb ℕ) (text : List ℕ) (input : Input) → IsRead c text input → IsQuiet input
+read_quiet (Ok v) text input r = r.2
+read_quiet (Err k) text input r = r.1
+
+from_failed_read : (P : Parses) (words : List Word) (input : Input) (w : Written) → Makes P words input w → input.faults_before < input.faults_after
+    → (w.status ≡ status.Read) ⊎ (w.status ≡ status.Memory)
+from_failed_read P words input w (answers text r a) f = absurd (let q = read_quiet (command_of words) text input r in omega (arith, f, q))
+from_failed_read P words input w (cannot_read v c rose e) f = inl (ap (λ w. w.status) e)
+from_failed_read P words input w (lacks_memory e) f = inr (ap (λ w. w.status) e)
+
+delivered_unread_so : (w : Written) (out err : Output) (s : Status) → (w.status ≡ status.Read) ⊎ (w.status ≡ status.Memory) → Delivers w out err s
+    → (s ≡ status.Read) ⊎ (s ≡ status.Write) ⊎ (s ≡ status.Memory)
+delivered_unread_so w out err s (inl u) (whole g h e) = inl (e ∙ u)
+delivered_unread_so w out err s (inr u) (whole g h e) = inr (inr (e ∙ u))
+delivered_unread_so w out err s u (out_failed g h e) = inr (inl e)
+delivered_unread_so w out err s u (err_failed g h e) = inr (inl e)
+
+pub read_always : (P : Parses) (words : List Word) (input : Input) (out err : Output) (s : Status) → Runs P words input out err s
+    → input.faults_before < input.faults_after → (s ≡ status.Read) ⊎ (s ≡ status.Write) ⊎ (s ≡ status.Memory)
+read_always P words input out err s r f = delivered_unread_so r.written out err s (from_failed_read P words input r.written r.makes f) r.delivers
 
 -- a command on an expression succeeds where no device fails
 parsed_once : (text : List ℕ) (o : Result Term ParseFault) (e : Term) → ParsesTo text (Ok e) → ParsesTo text o → (encoded o).status ≡ status.Ok

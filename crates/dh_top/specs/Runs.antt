@@ -1,5 +1,5 @@
 -- What one run of the command does to its input and to its two outputs.
-use Rattle.std.specs.Prelude.{◌≡◌, ℕ, List, [], take, Option, IfSome, Result, Ok, Err, IsErr}
+use Rattle.std.specs.Prelude.{◌≡◌, ℕ, ◌<◌, ◌⊎◌, List, [], length, take, Option, IfSome, Result, Ok, Err, IsErr}
 use Rattle.std.specs.Io.{StartsWith}
 use Rattle.std.specs.Io.KnownBytes.{Appends, Consumes, Keeps}
 use Rattle.dh_ports.specs.Counts.{Rose}
@@ -35,11 +35,16 @@ reading before after faults_before faults_after = record { before = before; afte
 abbrev pub most_read : ℕ
 most_read = 1048577
 
--- A command reads its input, which is what was left, to the end or up to the most that is read. Words that are no
--- command line leave it alone.
+-- no read of the input failed and was counted
+abbrev pub IsQuiet : Input → Type 0
+IsQuiet input = input.faults_after ≡ input.faults_before
+
+-- A command reads its input, which is what was left, to the end or up to the most that is read, and no read fails.
+-- Words that are no command line leave it alone.
 abbrev pub IsRead : Result Verb ℕ → List ℕ → Input → Type 0
-IsRead (Ok v) text input = IfSome input.before (λ left. text ≡ left) × Consumes input.before input.after (take most_read text)
-IsRead (Err k) text input = Keeps input.before input.after
+IsRead (Ok v) text input =
+    IfSome input.before (λ left. text ≡ left) × Consumes input.before input.after (take most_read text) × IsQuiet input
+IsRead (Err k) text input = Keeps input.before input.after × IsQuiet input
 
 -- What a run has to write: the answer to its words and its input, or one of the two faults that come before an answer.
 pub data Makes (Parses : List ℕ → Result Term ParseFault → Type 0) (words : List Word) (input : Input) (w : Written) : Type 0 where
@@ -47,28 +52,28 @@ pub data Makes (Parses : List ℕ → Result Term ParseFault → Type 0) (words 
   cannot_read : (v : Verb) → command_of words ≡ Ok v → Rose input.faults_before input.faults_after → w ≡ unread → Makes Parses words input w
   lacks_memory : w ≡ without_memory → Makes Parses words input w
 
--- an output grew by just these bytes
-abbrev pub Gains : Output → List ℕ → Type 0
-Gains o bytes = Appends o.before o.after bytes
+-- an output grew by just these bytes, and no write to it failed
+pub record Gains (o : Output) (bytes : List ℕ) : Type 0 where
+  pub grown : Appends o.before o.after bytes
+  pub quiet : o.faults_after ≡ o.faults_before
 
--- an output grew by some first part of these bytes, and a write to it failed
+-- an output grew by some first part of these bytes, and then a write to it failed
 pub record Stops (o : Output) (bytes : List ℕ) : Type 0 where
   pub part : List ℕ
   pub begins : StartsWith bytes part
+  pub short : length part < length bytes
   pub gains : Appends o.before o.after part
   pub failed : Rose o.faults_before o.faults_after
 
--- an output grew by some first part of these bytes
-pub record GainsPart (o : Output) (bytes : List ℕ) : Type 0 where
-  pub part : List ℕ
-  pub begins : StartsWith bytes part
-  pub gains : Appends o.before o.after part
+-- these bytes were written until a write failed, if one did
+abbrev pub Tries : Output → List ℕ → Type 0
+Tries o bytes = Gains o bytes ⊎ Stops o bytes
 
 -- How it is written: whole, with its status; or a write to standard output failed, and the line `write failed` was
 -- tried on standard error; or a write to standard error failed.
 pub data Delivers (w : Written) (out err : Output) (s : Status) : Type 0 where
   whole : Gains out w.out → Gains err w.err → s ≡ w.status → Delivers w out err s
-  out_failed : Stops out w.out → GainsPart err (line write_line) → s ≡ status.Write → Delivers w out err s
+  out_failed : Stops out w.out → Tries err (line write_line) → s ≡ status.Write → Delivers w out err s
   err_failed : Gains out w.out → Stops err w.err → s ≡ status.Write → Delivers w out err s
 
 -- a run of the command

@@ -1,7 +1,7 @@
 ghost use Rattle.std.specs.Prelude.{◌≡◌, ◌<◌, ◌≤◌, ◌+◌, ℕ, take, drop, length, IfOk, OnOk, OnErr};
 ghost use Rattle.std.specs.Io.KnownBytes.{Appends, Keeps};
 ghost use Rattle.dh_ports.specs.Counts.{Rose};
-ghost use Rattle.dh_top.specs.Runs.{Gains, GainsPart, Stops, Delivers, output};
+ghost use Rattle.dh_top.specs.Runs.{Gains, Tries, Stops, Delivers, output};
 ghost use Rattle.dh_syntax.specs.Answer.{line};
 ghost use Rattle.dh_syntax.specs.FaultLines.{write_line};
 
@@ -14,7 +14,7 @@ fn write_piece<O: Sink>(sink: &mut O, bytes: &[u8], at: usize) -> Result<usize, 
     ensures goes_on { IfOk result (λ n. (0 < n) × (at + n ≤ length bytes.now)) }
     ensures gains { IfOk result (λ n. Appends (O.written sink.old) (O.written sink.new) (take n (drop at bytes.now))) }
     ensures keeps { OnErr result (Keeps (O.written sink.old) (O.written sink.new)) }
-    ensures counted { O.faults sink.old ≤ O.faults sink.new }
+    ensures quiet { OnOk result (O.faults sink.new ≡ O.faults sink.old) }
     ensures failed { OnErr result (Rose (O.faults sink.old) (O.faults sink.new)) }
 {
     sink.write(&bytes[at..])
@@ -24,7 +24,6 @@ fn write_piece<O: Sink>(sink: &mut O, bytes: &[u8], at: usize) -> Result<usize, 
 fn write_all<O: Sink>(sink: &mut O, bytes: &[u8]) -> Result<(), WriteError>
     ensures ok { OnOk result (Gains (output (O.written sink.old) (O.written sink.new) (O.faults sink.old) (O.faults sink.new)) bytes.now) }
     ensures err { OnErr result (Stops (output (O.written sink.old) (O.written sink.new) (O.faults sink.old) (O.faults sink.new)) bytes.now) }
-    ensures counted { O.faults sink.old ≤ O.faults sink.new }
 {
     let mut at = 0;
     while at < bytes.len() {
@@ -36,9 +35,9 @@ fn write_all<O: Sink>(sink: &mut O, bytes: &[u8]) -> Result<(), WriteError>
     Ok(())
 }
 
-/// Tries the line `write failed`, after a write to the other output has failed.
+/// Tries the line `write failed`, after a write to the other output has failed. A failure here has no output left.
 fn tell_failure<E: Sink>(err: &mut E)
-    ensures { GainsPart (output (E.written err.old) (E.written err.new) (E.faults err.old) (E.faults err.new)) (line write_line) }
+    ensures { Tries (output (E.written err.old) (E.written err.new) (E.faults err.old) (E.faults err.new)) (line write_line) }
 {
     let _ = write_all(err, b"write failed\n");
 }

@@ -1,4 +1,4 @@
-ghost use Rattle.std.specs.Prelude.{◌≡◌, ◌≢◌, ◌<◌, ◌≤◌, ◌++◌, ℕ, true, false, take, drop, length, vec_len, IfOk, IfErr, IfSome, IsTrue, OnErr, MatchResult};
+ghost use Rattle.std.specs.Prelude.{◌≡◌, ◌≢◌, ◌<◌, ◌≤◌, ◌++◌, ℕ, true, false, take, drop, length, vec_len, IfOk, IfErr, IfSome, IsTrue, OnOk, OnErr, MatchResult};
 ghost use Rattle.std.specs.Io.KnownBytes.{Consumes, IsAtEnd};
 ghost use Rattle.dh_ports.specs.Counts.{Rose};
 ghost use Rattle.dh_top.specs.Runs.{most_read};
@@ -36,7 +36,7 @@ fn read_piece<I: Feed>(input: &mut I, bytes: &mut Vec<u8>) -> Result<bool, Input
     requires { length bytes.old.items < most_read }
     ensures taken { IfOk result (λ more. TakesPiece (I.left input.old) (I.left input.new) bytes.old.items bytes.new.items more) }
     ensures bound { length bytes.new.items ≤ most_read }
-    ensures counted { I.faults input.old ≤ I.faults input.new }
+    ensures quiet { OnOk result (I.faults input.new ≡ I.faults input.old) }
     ensures failed { result ≡ Err InputFault.Failed → Rose (I.faults input.old) (I.faults input.new) }
 {
     let mut piece = [0u8; PIECE];
@@ -54,6 +54,7 @@ fn read_piece<I: Feed>(input: &mut I, bytes: &mut Vec<u8>) -> Result<bool, Input
 pub(crate) fn read_input<I: Feed>(alloc: Global, input: &mut I) -> Result<Vec<u8>, InputFault>
     ensures taken { IfOk result (λ bytes. Consumes (I.left input.old) (I.left input.new) bytes.items) }
     ensures all { IfOk result (λ bytes. IfSome (I.left input.old) (λ left. bytes.items ≡ take most_read left)) }
+    ensures quiet { OnOk result (I.faults input.new ≡ I.faults input.old) }
     ensures failed { result ≡ Err InputFault.Failed → Rose (I.faults input.old) (I.faults input.new) }
 {
     let mut bytes = Vec::new(alloc);

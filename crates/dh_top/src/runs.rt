@@ -1,4 +1,4 @@
-ghost use Rattle.std.specs.Prelude.{◌≡◌, ◌⊎◌, Ok, map, string_bytes, IfSome};
+ghost use Rattle.std.specs.Prelude.{◌≡◌, ◌<◌, ◌⊎◌, Ok, map, string_bytes, IfSome};
 ghost use Rattle.dh_parse.specs.SmallSpelling.{ParsesTo};
 ghost use Rattle.dh_ports.specs.Counts.{Rose};
 ghost use Rattle.dh_syntax.specs.Tree.{Term};
@@ -36,6 +36,11 @@ pub fn run_dhall<I: Feed, O: Sink, E: Sink>(
         (output (O.written out.old) (O.written out.new) (O.faults out.old) (O.faults out.new))
         (output (E.written err.old) (E.written err.new) (E.faults err.old) (E.faults err.new)) }
     ensures write_only { result ≡ Status.Write → Rose (O.faults out.old) (O.faults out.new) ⊎ Rose (E.faults err.old) (E.faults err.new) }
+
+    // A failed call of a device that is counted is told: of a write by `Write`, of a read by `Read` unless that line
+    // cannot be written or memory is wanting.
+    ensures write { (O.faults out.old < O.faults out.new) ⊎ (E.faults err.old < E.faults err.new) → result ≡ Status.Write }
+    ensures read { I.faults input.old < I.faults input.new → (result ≡ Status.Read) ⊎ (result ≡ Status.Write) ⊎ (result ≡ Status.Memory) }
 
     // A command on an expression succeeds where no device fails, unless memory is wanting.
     ensures completes { IfSome (I.left input.old) (λ text. (e : Term) → ParsesTo text (Ok e) → ¬ AreMisused (map string_bytes words.now)

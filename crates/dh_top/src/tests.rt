@@ -153,3 +153,56 @@ fn reads_to_the_limit(rt: HostRuntime) -> Result<(), Fail> {
     expect(&rt, &longer, &[], "syntax at 0\n", Status::Text);
     Ok(())
 }
+
+/// Bytes that begin tokens, white space or nothing.
+const SOME_BYTES: &[u8] = b" \t\n\r017(+)*|&T_-\x7f\xc3";
+
+/// The numbers of at most two of the digits above, and their binary forms.
+const SHORT_NUMBERS: [(&[u8], &[u8]); 9] = [
+    (b"0", &[0x82, 15, 0]),
+    (b"1", &[0x82, 15, 1]),
+    (b"7", &[0x82, 15, 7]),
+    (b"10", &[0x82, 15, 10]),
+    (b"11", &[0x82, 15, 11]),
+    (b"17", &[0x82, 15, 17]),
+    (b"70", &[0x82, 15, 0x18, 70]),
+    (b"71", &[0x82, 15, 0x18, 71]),
+    (b"77", &[0x82, 15, 0x18, 77]),
+];
+
+/// The text without one blank before or behind it.
+fn without_blank(text: &[u8]) -> &[u8] {
+    match text {
+        [b' ' | b'\t' | b'\n', rest @ ..] => rest,
+        [rest @ .., b' ' | b'\t' | b'\n'] => rest,
+        _ => text,
+    }
+}
+
+/// A text of at most two bytes is refused unless it is a number, with a blank before or behind it.
+fn expect_of_short(
+    rt: &(impl Abort + Eprint + AllocGlobal),
+    text: &[u8],
+) -> Result<(), AllocError> {
+    let ran = run_in_memory(rt.alloc(), &["encode"], text, NONE)?;
+    for (number, bytes) in SHORT_NUMBERS {
+        if without_blank(text) == number {
+            expect(rt, &ran, bytes, "", Status::Ok);
+            return Ok(());
+        }
+    }
+    expect(rt, &ran, &[], "syntax at 0\n", Status::Text);
+    Ok(())
+}
+
+#[test]
+fn answers_every_text_of_up_to_two_bytes(rt: HostRuntime) -> Result<(), Fail> {
+    expect_of_short(&rt, &[])?;
+    for first in SOME_BYTES {
+        expect_of_short(&rt, &[*first])?;
+        for second in SOME_BYTES {
+            expect_of_short(&rt, &[*first, *second])?;
+        }
+    }
+    Ok(())
+}

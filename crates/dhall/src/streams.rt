@@ -112,6 +112,57 @@ mod tests {
         }
     }
 
+    /// A stream that is interrupted so many times, and then gives or takes one byte.
+    #[derive(Drop)]
+    struct Interrupted {
+        times: u64,
+    }
+
+    impl Interrupted {
+        fn go_on(&mut self) -> io::Result<()> {
+            if self.times == 0 {
+                return Ok(());
+            }
+            self.times -= 1;
+            Err(io::Error::from(ErrorKind::Interrupted))
+        }
+    }
+
+    impl Read for Interrupted {
+        fn read(&mut self, into: &mut [u8]) -> io::Result<usize> {
+            self.go_on()?;
+            if into.is_empty() {
+                return Ok(0);
+            }
+            into[0] = b'7';
+            Ok(1)
+        }
+    }
+
+    impl Write for Interrupted {
+        fn write(&mut self, bytes: &[u8]) -> io::Result<usize> {
+            self.go_on()?;
+            Ok(bytes.len().min(1))
+        }
+
+        fn flush(&mut self) -> io::Result<()> {
+            Ok(())
+        }
+    }
+
+    #[test]
+    fn goes_on_after_interruptions(rt: HostRuntime) -> Result<(), Fail> {
+        let mut source = Source::new(Interrupted { times: 2 });
+        let mut piece = [0u8; 4];
+        assert_eq!(rt; source.read(&mut piece), Ok(1));
+        assert_eq!(rt; piece, [b'7', 0, 0, 0]);
+        assert_eq!(rt; source.failed, 0);
+        let mut target = Target::new(Interrupted { times: 2 });
+        assert_eq!(rt; target.write(b"abc"), Ok(1));
+        assert_eq!(rt; target.failed, 0);
+        Ok(())
+    }
+
     #[test]
     fn reads_and_fails(rt: HostRuntime) -> Result<(), Fail> {
         let mut source = Source::new(b"1 + 2".as_slice());

@@ -1,4 +1,4 @@
-use Rattle.std.proofs.Common.{arith}
+use Rattle.std.proofs.Common.{◌∙◌}
 use Rattle.dh_ports.proofs.Writing.{Appends-next}
 use Rattle.dh_top.proofs.delivery.write_all.Goals as goal
 
@@ -8,5 +8,5 @@ loop-at-preserved g c =
     record {
       gained = Appends-next _ _ _ _ _ _ inv.gained c.in-Ok.ensures.gains;
       bound = c.in-Ok.ensures.goes_on.1;
-      counted = omega (arith, inv.counted, c.write_piece.ensures.counted);
+      quiet = c.in-Ok.ensures.quiet ∙ inv.quiet;
     }

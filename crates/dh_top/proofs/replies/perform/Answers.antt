@@ -6,7 +6,7 @@ use Rattle.dh_top.proofs.replies.perform.Goals as goal
 
 pub returns-in-Ok : goal.returns-in-Ok
 returns-in-Ok g c =
-    performs_command c.args.verb most_read _ _ _ _ _ _ c.encoding.result refl c.in-Ok.ensures.taken c.in-Ok.ensures.all c.deref.ensures.value c.encoding.ensures
+    performs_command c.args.verb most_read _ _ _ _ _ _ c.encoding.result refl c.in-Ok.ensures.taken c.in-Ok.ensures.all c.in-Ok.ensures.quiet c.deref.ensures.value c.encoding.ensures
 
 pub returns-in-Err-Failed : goal.returns-in-Err-Failed
 returns-in-Err-Failed g c =
