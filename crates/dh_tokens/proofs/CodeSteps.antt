@@ -1,5 +1,5 @@
 -- The number of a character, byte by byte.
-use Rattle.std.proofs.Common.{◌≡◌, ℕ, zero, suc, ◌+◌, ◌-◌, ◌*◌, ◌^◌, ◌<◌, ◌≤◌, arith}
+use Rattle.std.proofs.Common.{ℕ, zero, suc, ◌+◌, ◌-◌, ◌*◌, ◌^◌, ◌<◌, ◌≤◌, arith}
 
 -- a number with six more bits has room, where so many bytes are still to come
 pub code_has_room : (count code bits : ℕ) → 0 < count → count ≤ 3 → code < 2 ^ (32 - 8 * count) → bits < 256 → code * 64 + bits < 2 ^ (32 - 8 * (count - 1))

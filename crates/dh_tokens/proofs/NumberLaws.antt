@@ -1,9 +1,8 @@
 -- Laws of numbers at one place.
-use Rattle.std.proofs.Common.{◌≡◌, ℕ, zero, suc, ◌+◌, ◌<◌, ◌≤◌, max, Bool, true, false, ◌&&◌, cond, if◌then◌else◌, ◌==◌, nat_lt, ltb, eqb, List, [], ◌∷◌, length, take, drop, get_or, slice_index, Option, Some, None, ◌⊎◌, inl, inr, refl, sym, ap, subst, ◌∙◌, codes, arith}
+use Rattle.std.proofs.Common.{◌≡◌, ℕ, zero, suc, ◌+◌, ◌<◌, ◌≤◌, Bool, true, false, ◌&&◌, cond, if◌then◌else◌, ◌==◌, nat_lt, eqb, List, [], ◌∷◌, length, take, drop, get_or, slice_index, inl, inr, refl, sym, ap, subst, ◌∙◌, arith}
 use Rattle.std.proofs.lemmas.Bool.{and_right, and_from, ltb-true, both_ways, cases_lt, eqb-true, eq-eqb, lt-ltb, and_parts}
 use Rattle.std.proofs.lemmas.Bool.Decides.{nat_tests}
 use Rattle.std.proofs.lemmas.List.{get_or-take, length-take-le}
-use Rattle.std.proofs.lemmas.List.Folds.{length-prefix_len}
 use Rattle.std.proofs.lemmas.List.Sums.{prefix_len-le-length}
 use Rattle.std.proofs.lemmas.Str.Ascii.{IsAscii-nil, IsAscii-cons}
 use Rattle.std.specs.Char.{is_ascii_digit, is_ascii_hexdigit}

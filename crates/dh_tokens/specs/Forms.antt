@@ -1,5 +1,6 @@
 -- Forms of the program as forms of the definition.
-use Rattle.std.specs.Prelude.{ℕ, ◌<◌, ◌≤◌, Option, Some, None}
+use Rattle.std.specs.Prelude.{ℕ, ◌<◌, ◌≤◌, List, Option, Some, None}
+use Rattle.std.specs.Str.{IsCharBoundary}
 use Rattle.dh_syntax.specs.LexForms as forms
 use Rattle.dh_tokens.specs.declared.forms.Form.{Form}
 use Rattle.dh_tokens.specs.declared.forms.Found.{Found}
@@ -27,3 +28,22 @@ joined (Some f) other = Some (forms.longer f other)
 -- a form takes some of so many bytes
 abbrev pub IsWithin : Form → ℕ → Type 0
 IsWithin f n = (0 < f.len) × (f.len ≤ n)
+
+-- where a form of so many bytes that is no fault ends, a character ends
+abbrev pub EndsCharacter : Found → ℕ → List ℕ → Type 0
+EndsCharacter found.White n bs = IsCharBoundary bs n
+EndsCharacter found.SkippedLine n bs = IsCharBoundary bs n
+EndsCharacter (found.Is kind) n bs = IsCharBoundary bs n
+EndsCharacter found.LeftOut n bs = Unit {0}
+EndsCharacter found.TooWide n bs = Unit {0}
+EndsCharacter (found.Faulty further) n bs = Unit {0}
+EndsCharacter found.Unclosed n bs = Unit {0}
+
+-- the place of a fault stands within its form
+abbrev pub HasFaultWithin : forms.Found → ℕ → Type 0
+HasFaultWithin (forms.Faulty further) n = further < n
+HasFaultWithin found n = Unit {0}
+
+-- a form whose fault, where it is one, stands within it
+abbrev pub IsSound : forms.Form → Type 0
+IsSound f = HasFaultWithin f.found f.len

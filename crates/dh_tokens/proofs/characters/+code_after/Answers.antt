@@ -1,4 +1,4 @@
-use Rattle.std.proofs.Common.{◌<◌, ◌≤◌, arith}
+use Rattle.std.proofs.Common.{◌<◌, arith}
 use Rattle.dh_tokens.proofs.CodeSteps.{code_fits, code_has_room}
 use Rattle.dh_tokens.proofs.characters.+code_after.Goals as goal
 

@@ -1,4 +1,4 @@
-use Rattle.std.proofs.Common.{arith, ap, length, ◌∙◌, length-take}
+use Rattle.std.proofs.Common.{arith, ap, length, length-take}
 use Rattle.std.specs.Char.{is_ascii_hexdigit}
 use Rattle.dh_tokens.proofs.DigestLaws.{list_all-from_prefix_len, sixty-four, after_sha256-digest}
 use Rattle.dh_tokens.proofs.digests.after_sha256.Goals as goal

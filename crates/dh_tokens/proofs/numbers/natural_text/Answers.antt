@@ -1,4 +1,4 @@
-use Rattle.std.proofs.Common.{◌≡◌, ◌∙◌, List, ℕ, take, true, sym, ap, subst, arith}
+use Rattle.std.proofs.Common.{◌∙◌, List, ℕ, take, sym, ap, subst, arith}
 use Rattle.std.specs.Str.{IsAscii}
 use Rattle.std.proofs.lemmas.List.{length-take-le}
 use Rattle.dh_syntax.specs.Numerals.{is_natural}

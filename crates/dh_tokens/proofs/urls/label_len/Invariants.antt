@@ -1,4 +1,4 @@
-use Rattle.std.proofs.Common.{◌≡◌, ◌≤◌, ◌+◌, ◌==◌, take, length}
+use Rattle.std.proofs.Common.{◌≡◌, ◌≤◌, ◌+◌, ◌==◌, take}
 use Rattle.std.specs.List.{prefix_len, suffix_len}
 use Rattle.dh_syntax.specs.Characters.{is_host_byte}
 use Rattle.dh_tokens.proofs.urls.label_len.Given as goal
