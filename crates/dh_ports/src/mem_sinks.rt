@@ -103,4 +103,17 @@ mod tests {
         assert_eq!(rt; sink.fault_count(), 1);
         Ok(())
     }
+
+    #[test]
+    fn takes_a_large_piece_and_many_small_ones(rt: HostRuntime) -> Result<(), Fail> {
+        let mut sink = MemSink::new(rt.alloc(), Many::new(rt.alloc()));
+        let large = vec![in rt.alloc(); 7; 1_048_576]?;
+        assert_eq!(rt; write(&mut sink, large.as_slice()), Ok(1_048_576));
+        for _ in 0..1_000 {
+            assert_eq!(rt; write(&mut sink, &[8]), Ok(1));
+        }
+        assert_eq!(rt; sink.written_bytes().len(), 1_049_576);
+        assert_eq!(rt; sink.fault_count(), 0);
+        Ok(())
+    }
 }
