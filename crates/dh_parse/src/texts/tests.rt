@@ -1,6 +1,7 @@
 use super::parse;
 use dh_syntax::{BinOp, Expr, Op, ParseFault};
 use std::alloc::{AllocError, Global};
+use std::process::Abort;
 use std::test::Fail;
 
 /// The mark of an operator of the small language.
@@ -82,6 +83,14 @@ fn texts_spell_expressions(rt: HostRuntime) -> Result<(), Fail> {
     Ok(())
 }
 
+/// Such a text is refused as one that spells nothing, and not for want of memory.
+fn expect_refused(rt: &(impl Abort + Eprint + AllocGlobal), text: &[u8], what: &str) {
+    match parse(rt.alloc(), text) {
+        Ok(_) => assert!(rt; false, "{what}: read"),
+        Err(fault) => assert_eq!(rt; fault, ParseFault::Syntax(0), "{what}"),
+    }
+}
+
 #[test]
 fn other_texts_are_refused(rt: HostRuntime) {
     let rows = [
@@ -120,10 +129,7 @@ fn other_texts_are_refused(rt: HostRuntime) {
         "é",
     ];
     for text in rows {
-        match parse(rt.alloc(), text.as_bytes()) {
-            Ok(_) => assert!(rt; false, "{text} is read"),
-            Err(fault) => assert_eq!(rt; fault, ParseFault::Syntax(0), "at {text}"),
-        }
+        expect_refused(&rt, text.as_bytes(), text);
     }
 }
 
@@ -132,25 +138,16 @@ fn limits(rt: HostRuntime) -> Result<(), Fail> {
     let deep = around(rt.alloc(), b"(", b"1", b")", 499)?;
     assert!(rt; parse(rt.alloc(), deep.as_slice()).is_ok(), "499 brackets");
     let deeper = around(rt.alloc(), b"(", b"1", b")", 500)?;
-    assert!(rt;
-        parse(rt.alloc(), deeper.as_slice()).is_err(),
-        "500 brackets"
-    );
+    expect_refused(&rt, deeper.as_slice(), "500 brackets");
 
     let long = around(rt.alloc(), b"1 + ", b"1", b"", 500)?;
     assert!(rt; parse(rt.alloc(), long.as_slice()).is_ok(), "501 operands");
     let longer = around(rt.alloc(), b"1 + ", b"1", b"", 501)?;
-    assert!(rt;
-        parse(rt.alloc(), longer.as_slice()).is_err(),
-        "502 operands"
-    );
+    expect_refused(&rt, longer.as_slice(), "502 operands");
 
     let full = around(rt.alloc(), b"", b"7", b" ", 1_048_575)?;
     assert!(rt; parse(rt.alloc(), full.as_slice()).is_ok(), "1048576 bytes");
     let fuller = around(rt.alloc(), b"", b"7", b" ", 1_048_576)?;
-    assert!(rt;
-        parse(rt.alloc(), fuller.as_slice()).is_err(),
-        "1048577 bytes"
-    );
+    expect_refused(&rt, fuller.as_slice(), "1048577 bytes");
     Ok(())
 }
