@@ -12,4 +12,6 @@ pub use runs::run_dhall;
 pub use words::{Verb, read_words};
 
 #[cfg(test)]
+mod copy_tests;
+#[cfg(test)]
 mod tests;
