@@ -2,13 +2,13 @@
 use Rattle.std.specs.Prelude.{◌≡◌, ◌≤◌, ℕ, zero, suc, Bool, true, false, cond, List, [], ◌∷◌, Some, None, refl}
 use Rattle.std.proofs.Common.{ap, sym, ◌∙◌, arith, subst as along}
 use Rattle.std.proofs.Math.Path.{fun_ext}
-use Rattle.dh_syntax.specs.Alpha.{blank, renamed, alpha_row, alpha_to, alpha, IsSame}
-use Rattle.dh_syntax.specs.Moves.{moved_row}
-use Rattle.dh_syntax.specs.Nameless.{Ref, Bound, going_nameless, core_below, reading_back, term_below, from_core, forgetting, forget, blanking, with_blanks, bare, lifted, renamed_ref, sub, Core, Bare}
-use Rattle.dh_syntax.specs.Nesting.{nesting, parts_nesting}
-use Rattle.dh_syntax.specs.Numbers.{bytes_eq}
-use Rattle.dh_syntax.specs.Subst.{shift_up, shift_down, subst, is_free}
-use Rattle.dh_syntax.specs.Tree.{Row, Leaf, Node, end, kid, Name, Var, Term}
+use Rattle.dh_syntax.specs.Names.Alpha.{blank, renamed, alpha_row, alpha_to, alpha, IsSame}
+use Rattle.dh_syntax.specs.Names.Moves.{moved_row}
+use Rattle.dh_syntax.specs.Names.Nameless.{Ref, Bound, going_nameless, core_below, reading_back, term_below, from_core, forgetting, forget, blanking, with_blanks, bare, lifted, renamed_ref, sub, Core, Bare}
+use Rattle.dh_syntax.specs.Expressions.Nesting.{nesting, parts_nesting}
+use Rattle.dh_syntax.specs.Expressions.Numbers.{bytes_eq}
+use Rattle.dh_syntax.specs.Names.Subst.{shift_up, shift_down, subst, is_free}
+use Rattle.dh_syntax.specs.Expressions.Tree.{Row, Leaf, Node, end, kid, Name, Var, Term}
 use Rattle.dh_syntax.proofs.AlphaEquations.{nesting-renamed}
 use Rattle.dh_syntax.proofs.Numbers.{bytes_eq-true, bytes_eq-comm}
 use Rattle.dh_laws.proofs.Cores.{IsShiftedTo, shifted-below, shifted-by_one, lifted-past, core-shift_up, core-shift_down, core-subst, putting, putting-nearest, ren-suc-one_to_one, var_of-ref_of}

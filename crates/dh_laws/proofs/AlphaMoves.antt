@@ -2,12 +2,12 @@
 use Rattle.std.specs.Prelude.{◌≡◌, ◌≤◌, ℕ, zero, suc, Bool, true, false, cond, [], ◌∷◌, Some, None, refl}
 use Rattle.std.proofs.Common.{ap, sym, ◌∙◌, arith}
 use Rattle.dh_syntax.specs.declared.expressions.Op.{Op}
-use Rattle.dh_syntax.specs.Alpha.{blank, renamed, alpha_row, alpha_to, alpha}
-use Rattle.dh_syntax.specs.Moves.{moved, moved_row}
-use Rattle.dh_syntax.specs.Nameless.{core_below, raised, sub, at_place}
-use Rattle.dh_syntax.specs.Nesting.{nesting, parts_nesting}
-use Rattle.dh_syntax.specs.Subst.{under, is_var, shifting, shift_up, shift_down, subst, subst_row, is_free}
-use Rattle.dh_syntax.specs.Tree.{Row, Leaf, Node, end, kid, Name, Var, Term}
+use Rattle.dh_syntax.specs.Names.Alpha.{blank, renamed, alpha_row, alpha_to, alpha}
+use Rattle.dh_syntax.specs.Names.Moves.{moved, moved_row}
+use Rattle.dh_syntax.specs.Names.Nameless.{core_below, raised, sub, at_place}
+use Rattle.dh_syntax.specs.Expressions.Nesting.{nesting, parts_nesting}
+use Rattle.dh_syntax.specs.Names.Subst.{under, is_var, shifting, shift_up, shift_down, subst, subst_row, is_free}
+use Rattle.dh_syntax.specs.Expressions.Tree.{Row, Leaf, Node, end, kid, Name, Var, Term}
 use Rattle.dh_syntax.proofs.AlphaEquations.{alpha-Leaf, alpha-Node, nesting-renamed}
 use Rattle.dh_syntax.proofs.Moves.{nesting-moved}
 use Rattle.dh_laws.proofs.AlphaForms.{core-renamed}

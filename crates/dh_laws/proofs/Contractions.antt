@@ -2,9 +2,9 @@
 use Rattle.std.specs.Prelude.{◌≡◌, ℕ, zero, suc, Bool, cond, List, [], ◌∷◌, refl}
 use Rattle.std.proofs.Common.{ap, sym, ◌∙◌, subst as along}
 use Rattle.std.proofs.Math.Path.{fun_ext}
-use Rattle.dh_syntax.specs.Nameless.{Ref, core_below, lifted, renamed_ref, ren, raised, sub, first, at_place, Core}
-use Rattle.dh_syntax.specs.Subst.{under, shift_up, shift_down, subst}
-use Rattle.dh_syntax.specs.Tree.{Tree, Name, Term}
+use Rattle.dh_syntax.specs.Names.Nameless.{Ref, core_below, lifted, renamed_ref, ren, raised, sub, first, at_place, Core}
+use Rattle.dh_syntax.specs.Names.Subst.{under, shift_up, shift_down, subst}
+use Rattle.dh_syntax.specs.Expressions.Tree.{Tree, Name, Term}
 use Rattle.dh_syntax.proofs.Numbers.{bytes_eq-itself}
 use Rattle.dh_laws.proofs.Cores.{IsShiftedTo, shifted-by_one, shifted-below, lifted-past, core-shift_up, core-subst, substituted-below, core-contracted, core_below-one_to_one}
 use Rattle.dh_laws.proofs.FreeShifts.{at_place-substitutes, binding_all, ref_of-binding_all}

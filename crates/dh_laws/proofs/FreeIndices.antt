@@ -1,14 +1,14 @@
 -- The indices outside of all binders stay below a limit.
 use Rattle.std.specs.Prelude.{◌≡◌, ◌+◌, ◌<◌, ◌≤◌, ℕ, zero, suc, Bool, true, false, cond, List, [], ◌∷◌, length, Option, Some, None, refl}
 use Rattle.std.proofs.Common.{sym, subst as along, arith}
-use Rattle.dh_syntax.specs.Alpha.{alpha}
-use Rattle.dh_syntax.specs.Indices.{IndicesBelow, RowIndicesBelow, count, with_binder, FreeIndicesBelow, RowFreeIndicesBelow}
-use Rattle.dh_syntax.specs.Moves.{moved_row}
-use Rattle.dh_syntax.specs.Nameless.{Ref, Bound, Free, past, nearest, ref_of, going_nameless, core_below, forgetting, forget, renaming, renamed_ref, ren, lifted, raised, sub, sub_row, first, Core}
-use Rattle.dh_syntax.specs.Nesting.{nesting, parts_nesting}
-use Rattle.dh_syntax.specs.Numbers.{le, bytes_eq}
-use Rattle.dh_syntax.specs.Subst.{is_var, under, index_under, shifting, put_under, shift_up, shift_down, subst, subst_row}
-use Rattle.dh_syntax.specs.Tree.{Tree, Row, Leaf, Node, end, kid, Name, Var, Term}
+use Rattle.dh_syntax.specs.Names.Alpha.{alpha}
+use Rattle.dh_syntax.specs.Names.Indices.{IndicesBelow, RowIndicesBelow, count, with_binder, FreeIndicesBelow, RowFreeIndicesBelow}
+use Rattle.dh_syntax.specs.Names.Moves.{moved_row}
+use Rattle.dh_syntax.specs.Names.Nameless.{Ref, Bound, Free, past, nearest, ref_of, going_nameless, core_below, forgetting, forget, renaming, renamed_ref, ren, lifted, raised, sub, sub_row, first, Core}
+use Rattle.dh_syntax.specs.Expressions.Nesting.{nesting, parts_nesting}
+use Rattle.dh_syntax.specs.Expressions.Numbers.{le, bytes_eq}
+use Rattle.dh_syntax.specs.Names.Subst.{is_var, under, index_under, shifting, put_under, shift_up, shift_down, subst, subst_row}
+use Rattle.dh_syntax.specs.Expressions.Tree.{Tree, Row, Leaf, Node, end, kid, Name, Var, Term}
 use Rattle.dh_laws.proofs.AlphaForms.{bare-alpha_to}
 use Rattle.dh_laws.proofs.Cores.{core-shift_up_one, core-contracted}
 use Rattle.dh_laws.proofs.Shifts.{moved_index}

@@ -1,11 +1,11 @@
 -- Shifting and substitution on nameless terms, below binders that bind nothing of them or the variable that is substituted.
 use Rattle.std.specs.Prelude.{◌≡◌, ℕ, zero, suc, Bool, true, false, cond, ◌&&◌, List, [], ◌∷◌, refl}
 use Rattle.std.proofs.Common.{ap, sym, ◌∙◌}
-use Rattle.dh_syntax.specs.Moves.{Move, moved}
-use Rattle.dh_syntax.specs.Nameless.{Ref, Bound, Free, past, nearest, ref_of, going_nameless, core_below, var_of, sub_ref, at_place, Core}
-use Rattle.dh_syntax.specs.Numbers.{eq, bytes_eq}
-use Rattle.dh_syntax.specs.Subst.{under, shifting, shift_up}
-use Rattle.dh_syntax.specs.Tree.{Leaf, Name, Var, Term}
+use Rattle.dh_syntax.specs.Names.Moves.{Move, moved}
+use Rattle.dh_syntax.specs.Names.Nameless.{Ref, Bound, Free, past, nearest, ref_of, going_nameless, core_below, var_of, sub_ref, at_place, Core}
+use Rattle.dh_syntax.specs.Expressions.Numbers.{eq, bytes_eq}
+use Rattle.dh_syntax.specs.Names.Subst.{under, shifting, shift_up}
+use Rattle.dh_syntax.specs.Expressions.Tree.{Leaf, Name, Var, Term}
 use Rattle.dh_syntax.proofs.Moves.{Agree, moved-agree, moved-then, then}
 use Rattle.dh_syntax.proofs.Numbers.{and-true_left, and-true_right, eq-itself, eq-true, bytes_eq-itself, bytes_eq-true}
 use Rattle.dh_laws.proofs.Cores.{IsShiftedTo, shifted-below, IsSubstitution, var_of-ref_of}

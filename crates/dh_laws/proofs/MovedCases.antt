@@ -1,10 +1,10 @@
 -- How the cases of a row of the contraction table are put together: a row commutes with a function where its cases do.
 use Rattle.std.specs.Prelude.{◌≡◌, ℕ, Bool, true, false, Option, Some, None, option_map, refl}
 use Rattle.std.proofs.Common.{ap, ◌∙◌}
-use Rattle.dh_syntax.specs.Contraction.{Contraction, Nothing, Gives, TooWide, IfSame, Binders, ◌or◌, when, from, on, within}
-use Rattle.dh_syntax.specs.Moves.{Move, moved}
-use Rattle.dh_syntax.specs.Numbers.{le}
-use Rattle.dh_syntax.specs.Tree.{Tree}
+use Rattle.dh_syntax.specs.Normalising.Contraction.{Contraction, Nothing, Gives, TooWide, IfSame, Binders, ◌or◌, when, from, on, within}
+use Rattle.dh_syntax.specs.Names.Moves.{Move, moved}
+use Rattle.dh_syntax.specs.Expressions.Numbers.{le}
+use Rattle.dh_syntax.specs.Expressions.Tree.{Tree}
 
 -- what a row answers, with the function on its expressions
 abbrev pub carried : {S T : Type 0} → (S → T) → Contraction S → Contraction T

@@ -1,12 +1,12 @@
 -- Fields of moved expressions.
 use Rattle.std.specs.Prelude.{◌≡◌, Bool, true, false, if◌then◌else◌, List, [], ◌∷◌, Option, Some, None, option_map, refl}
 use Rattle.std.proofs.Common.{ap, ◌∙◌}
-use Rattle.dh_syntax.specs.Forms.{Fields}
-use Rattle.dh_syntax.specs.Labels.{has_others, has_label, field_at, prepend_field, fields_at, fields_among, add_field, all_fields}
-use Rattle.dh_syntax.specs.Moves.{Move, moved}
-use Rattle.dh_syntax.specs.Numbers.{bytes_eq}
-use Rattle.dh_syntax.specs.Order.{before}
-use Rattle.dh_syntax.specs.Tree.{Tree, Name}
+use Rattle.dh_syntax.specs.Expressions.Forms.{Fields}
+use Rattle.dh_syntax.specs.Expressions.Labels.{has_others, has_label, field_at, prepend_field, fields_at, fields_among, add_field, all_fields}
+use Rattle.dh_syntax.specs.Names.Moves.{Move, moved}
+use Rattle.dh_syntax.specs.Expressions.Numbers.{bytes_eq}
+use Rattle.dh_syntax.specs.Expressions.Order.{before}
+use Rattle.dh_syntax.specs.Expressions.Tree.{Tree, Name}
 use Rattle.dh_laws.proofs.MovedViews.{moved_fields}
 
 -- a function of both sides of a choice

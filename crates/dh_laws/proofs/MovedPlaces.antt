@@ -5,11 +5,11 @@ use Rattle.dh_syntax.specs.declared.expressions.Op.{Op}
 use Rattle.dh_syntax.specs.declared.expressions.Op.TheVariants as ops
 use Rattle.dh_syntax.specs.declared.operators.Builtin.{Builtin}
 use Rattle.dh_syntax.specs.declared.operators.Builtin.TheVariants as builtins
-use Rattle.dh_syntax.specs.Moves.{Move, moved_binder, entered, moved, moved_row}
-use Rattle.dh_syntax.specs.Needs.{Place, part, call_needs, argument_needs, all_parts, node_needs, needs, place, most_needs, part_at, change_part, part_or_self, change_part_of, at, set}
-use Rattle.dh_syntax.specs.Rows.{row_length}
-use Rattle.dh_syntax.specs.Tree.{Tree, Row, Leaf, Node, end, kid}
-use Rattle.dh_syntax.specs.Views.{as_call}
+use Rattle.dh_syntax.specs.Names.Moves.{Move, moved_binder, entered, moved, moved_row}
+use Rattle.dh_syntax.specs.Normalising.Needs.{Place, part, call_needs, argument_needs, all_parts, node_needs, needs, place, most_needs, part_at, change_part, part_or_self, change_part_of, at, set}
+use Rattle.dh_syntax.specs.Expressions.Rows.{row_length}
+use Rattle.dh_syntax.specs.Expressions.Tree.{Tree, Row, Leaf, Node, end, kid}
+use Rattle.dh_syntax.specs.Expressions.Views.{as_call}
 use Rattle.dh_laws.proofs.MovedViews.{moved_list, moved_call, as_call-moved}
 
 module _ {S A B C D : Type 0} (m : Move S A B C D) (s : S) where

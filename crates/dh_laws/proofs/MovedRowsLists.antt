@@ -3,16 +3,16 @@ use Rattle.std.specs.Prelude.{◌≡◌, ℕ, zero, suc, pred, List, [], ◌∷�
 use Rattle.std.proofs.Common.{ap, sym, ◌∙◌}
 use Rattle.std.proofs.lemmas.List.{reverse-append}
 use Rattle.dh_syntax.specs.declared.operators.Builtin.TheVariants as builtins
-use Rattle.dh_syntax.specs.BuiltinLists.{first_of, last_of, optional, indexed_from, indexed_type, list_build, folded_list, list_fold, list_length, list_head, list_last, list_indexed, list_reverse}
-use Rattle.dh_syntax.specs.BuiltinTexts.{pieces_between, text_show, separated_by, text_replace}
-use Rattle.dh_syntax.specs.Contraction.{Gives, Binders}
-use Rattle.dh_syntax.specs.ContractLists.{list_append}
-use Rattle.dh_syntax.specs.ContractTexts.{joined_pieces, text_fits, splice_first, spliced, lone_interpolation, text_append, text_literal}
-use Rattle.dh_syntax.specs.Forms as form
-use Rattle.dh_syntax.specs.Forms.{TextParts}
-use Rattle.dh_syntax.specs.Moves.{Move, moved}
-use Rattle.dh_syntax.specs.Tree.{Tree}
-use Rattle.dh_syntax.specs.Views.{as_text}
+use Rattle.dh_syntax.specs.Normalising.BuiltinLists.{first_of, last_of, optional, indexed_from, indexed_type, list_build, folded_list, list_fold, list_length, list_head, list_last, list_indexed, list_reverse}
+use Rattle.dh_syntax.specs.Normalising.BuiltinTexts.{pieces_between, text_show, separated_by, text_replace}
+use Rattle.dh_syntax.specs.Normalising.Contraction.{Gives, Binders}
+use Rattle.dh_syntax.specs.Normalising.ContractLists.{list_append}
+use Rattle.dh_syntax.specs.Normalising.ContractTexts.{joined_pieces, text_fits, splice_first, spliced, lone_interpolation, text_append, text_literal}
+use Rattle.dh_syntax.specs.Expressions.Forms as form
+use Rattle.dh_syntax.specs.Expressions.Forms.{TextParts}
+use Rattle.dh_syntax.specs.Names.Moves.{Move, moved}
+use Rattle.dh_syntax.specs.Expressions.Tree.{Tree}
+use Rattle.dh_syntax.specs.Expressions.Views.{as_text}
 use Rattle.dh_laws.proofs.MovedCases.{Commutes, BindersMove, or-carried, when-carried, from-carried, within-carried, on-carried, on-same-carried}
 use Rattle.dh_laws.proofs.MovedViews.{moved_list, moved_texts, list-moved, text-moved, list_of-moved, as_text-moved, as_plain_text-moved, as_list-moved, is_empty_list-moved}
 

@@ -1,12 +1,12 @@
 -- The rows of `if`, of the operators on Bool and of those on Natural, on moved expressions.
 use Rattle.std.specs.Prelude.{◌≡◌, ℕ, ◌+◌, ◌*◌, Bool, ◌&&◌, refl}
-use Rattle.dh_syntax.specs.ContractLogic.{if_then_else, disjunction, conjunction, equality, inequality}
-use Rattle.dh_syntax.specs.Contraction.{on}
-use Rattle.dh_syntax.specs.ContractNumbers.{natural_literal, sum, product}
-use Rattle.dh_syntax.specs.Moves.{Move, moved}
-use Rattle.dh_syntax.specs.Numerals.{natural_fits}
-use Rattle.dh_syntax.specs.Tree.{Tree}
-use Rattle.dh_syntax.specs.Views.{as_natural}
+use Rattle.dh_syntax.specs.Normalising.ContractLogic.{if_then_else, disjunction, conjunction, equality, inequality}
+use Rattle.dh_syntax.specs.Normalising.Contraction.{on}
+use Rattle.dh_syntax.specs.Normalising.ContractNumbers.{natural_literal, sum, product}
+use Rattle.dh_syntax.specs.Names.Moves.{Move, moved}
+use Rattle.dh_syntax.specs.Text.Numerals.{natural_fits}
+use Rattle.dh_syntax.specs.Expressions.Tree.{Tree}
+use Rattle.dh_syntax.specs.Expressions.Views.{as_natural}
 use Rattle.dh_laws.proofs.MovedCases.{Commutes, or-carried, when-carried, from-carried, within-carried, on-same-carried}
 use Rattle.dh_laws.proofs.MovedViews.{is_true-moved, is_false-moved, as_natural-moved, is_literal-moved}
 

@@ -2,11 +2,11 @@
 use Rattle.std.specs.Prelude.{◌≡◌, ℕ, zero, suc, ◌∷◌, [], refl}
 use Rattle.std.proofs.Common.{ap}
 use Rattle.dh_syntax.specs.declared.operators.Builtin.TheVariants as builtins
-use Rattle.dh_syntax.specs.BuiltinNumbers.{natural_build, folded_natural, natural_fold, natural_is_zero, natural_even, natural_odd, natural_to_integer, natural_show, natural_subtract, integer_show, integer_negate, integer_clamp}
-use Rattle.dh_syntax.specs.Contraction.{Gives, Binders}
-use Rattle.dh_syntax.specs.Forms as form
-use Rattle.dh_syntax.specs.Moves.{Move, moved}
-use Rattle.dh_syntax.specs.Tree.{Tree}
+use Rattle.dh_syntax.specs.Normalising.BuiltinNumbers.{natural_build, folded_natural, natural_fold, natural_is_zero, natural_even, natural_odd, natural_to_integer, natural_show, natural_subtract, integer_show, integer_negate, integer_clamp}
+use Rattle.dh_syntax.specs.Normalising.Contraction.{Gives, Binders}
+use Rattle.dh_syntax.specs.Expressions.Forms as form
+use Rattle.dh_syntax.specs.Names.Moves.{Move, moved}
+use Rattle.dh_syntax.specs.Expressions.Tree.{Tree}
 use Rattle.dh_laws.proofs.MovedCases.{Commutes, BindersMove, or-carried, when-carried, from-carried, within-carried, on-same-carried}
 use Rattle.dh_laws.proofs.MovedViews.{as_natural-moved, is_literal-moved, as_integer-moved}
 

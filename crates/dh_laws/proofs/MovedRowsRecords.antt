@@ -2,13 +2,13 @@
 use Rattle.std.specs.Prelude.{◌≡◌, ℕ, List, [], ◌∷◌, Option, Some, None, option_map, unwrap_or, refl}
 use Rattle.std.proofs.Common.{ap, ◌∙◌}
 use Rattle.dh_syntax.specs.declared.operators.BinOp.TheVariants as bins
-use Rattle.dh_syntax.specs.ContractRecords.{combine, prefer, combine_types, record_completion, select_beside, select_preferred, select_combined, select, project_preferred, project, project_type, update_record, with_path}
-use Rattle.dh_syntax.specs.Contraction.{Gives}
-use Rattle.dh_syntax.specs.Forms as form
-use Rattle.dh_syntax.specs.Forms.{Fields, labels_of}
-use Rattle.dh_syntax.specs.Labels.{field_at, fields_among, add_field, all_fields, labels_without}
-use Rattle.dh_syntax.specs.Moves.{Move, moved}
-use Rattle.dh_syntax.specs.Tree.{Tree, Name}
+use Rattle.dh_syntax.specs.Normalising.ContractRecords.{combine, prefer, combine_types, record_completion, select_beside, select_preferred, select_combined, select, project_preferred, project, project_type, update_record, with_path}
+use Rattle.dh_syntax.specs.Normalising.Contraction.{Gives}
+use Rattle.dh_syntax.specs.Expressions.Forms as form
+use Rattle.dh_syntax.specs.Expressions.Forms.{Fields, labels_of}
+use Rattle.dh_syntax.specs.Expressions.Labels.{field_at, fields_among, add_field, all_fields, labels_without}
+use Rattle.dh_syntax.specs.Names.Moves.{Move, moved}
+use Rattle.dh_syntax.specs.Expressions.Tree.{Tree, Name}
 use Rattle.dh_laws.proofs.MovedCases.{Commutes, or-carried, when-carried, from-carried, on-carried}
 use Rattle.dh_laws.proofs.MovedFields.{has_others-moved, field_at-moved, fields_at-moved, fields_among-moved, add_field-moved, all_fields-moved}
 use Rattle.dh_laws.proofs.MovedViews.{moved_fields, moved_two, labels_of-moved, record_literal-moved, record_type-moved, as_record-moved, is_empty_record-moved, as_record_type-moved, is_empty_record_type-moved, as_projection-moved, as_prefer-moved, as_combine-moved}

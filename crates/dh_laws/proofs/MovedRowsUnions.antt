@@ -1,12 +1,12 @@
 -- The rows of `merge` and of `toMap`, on moved expressions.
 use Rattle.std.specs.Prelude.{◌≡◌, ℕ, [], ◌∷◌, Option, Some, None, option_map, map, codes, refl}
 use Rattle.std.proofs.Common.{ap, ◌∙◌}
-use Rattle.dh_syntax.specs.Contraction.{Gives}
-use Rattle.dh_syntax.specs.ContractUnions.{handled, handler, merge_with, merge, map_entry, to_map_of, to_map}
-use Rattle.dh_syntax.specs.Forms as form
-use Rattle.dh_syntax.specs.Forms.{Fields}
-use Rattle.dh_syntax.specs.Moves.{Move, moved}
-use Rattle.dh_syntax.specs.Tree.{Tree, Name}
+use Rattle.dh_syntax.specs.Normalising.Contraction.{Gives}
+use Rattle.dh_syntax.specs.Normalising.ContractUnions.{handled, handler, merge_with, merge, map_entry, to_map_of, to_map}
+use Rattle.dh_syntax.specs.Expressions.Forms as form
+use Rattle.dh_syntax.specs.Expressions.Forms.{Fields}
+use Rattle.dh_syntax.specs.Names.Moves.{Move, moved}
+use Rattle.dh_syntax.specs.Expressions.Tree.{Tree, Name}
 use Rattle.dh_laws.proofs.MovedCases.{Commutes, or-carried, when-carried, from-carried, on-carried, on-same-carried}
 use Rattle.dh_laws.proofs.MovedFields.{field_at-moved}
 use Rattle.dh_laws.proofs.MovedViews.{moved_list, moved_fields, moved_two, list-moved, as_record-moved, as_some-moved, as_app-moved, as_alternative-moved, is_none-moved}

@@ -7,11 +7,11 @@ use Rattle.dh_syntax.specs.declared.operators.BinOp.{BinOp}
 use Rattle.dh_syntax.specs.declared.operators.BinOp.TheVariants as bins
 use Rattle.dh_syntax.specs.declared.operators.Builtin.{Builtin}
 use Rattle.dh_syntax.specs.declared.operators.Builtin.TheVariants as builtins
-use Rattle.dh_syntax.specs.Contract.{contract_call, application, let_in, contract_operator, contract_node, contract_at}
-use Rattle.dh_syntax.specs.Contraction.{Gives, Binders}
-use Rattle.dh_syntax.specs.Forms as form
-use Rattle.dh_syntax.specs.Moves.{Move, moved, moved_row}
-use Rattle.dh_syntax.specs.Tree.{Tree, Row, Leaf, Node, end, kid}
+use Rattle.dh_syntax.specs.Normalising.Contract.{contract_call, application, let_in, contract_operator, contract_node, contract_at}
+use Rattle.dh_syntax.specs.Normalising.Contraction.{Gives, Binders}
+use Rattle.dh_syntax.specs.Expressions.Forms as form
+use Rattle.dh_syntax.specs.Names.Moves.{Move, moved, moved_row}
+use Rattle.dh_syntax.specs.Expressions.Tree.{Tree, Row, Leaf, Node, end, kid}
 use Rattle.dh_laws.proofs.MovedCases.{Commutes, BindersMove, or-carried, from-carried, on-carried}
 use Rattle.dh_laws.proofs.MovedRowsLists.{text_append-moved, text_literal-moved, text_show-moved, text_replace-moved, list_append-moved, list_build-moved, list_fold-moved, list_length-moved, list_head-moved, list_last-moved, list_indexed-moved, list_reverse-moved}
 use Rattle.dh_laws.proofs.MovedRowsLogic.{if_then_else-moved, disjunction-moved, conjunction-moved, equality-moved, inequality-moved, sum-moved, product-moved}

@@ -5,11 +5,11 @@ use Rattle.dh_syntax.specs.declared.expressions.Op.TheVariants as ops
 use Rattle.dh_syntax.specs.declared.operators.BinOp.TheVariants as bins
 use Rattle.dh_syntax.specs.declared.operators.Builtin.{Builtin}
 use Rattle.dh_syntax.specs.declared.operators.Builtin.TheVariants as builtins
-use Rattle.dh_syntax.specs.Forms as form
-use Rattle.dh_syntax.specs.Forms.{Fields, TextParts, plain_row, labels_of, values_of}
-use Rattle.dh_syntax.specs.Moves.{Move, moved, moved_row}
-use Rattle.dh_syntax.specs.Tree.{Tree, Row, Leaf, Node, end, kid, Name}
-use Rattle.dh_syntax.specs.Views as views
+use Rattle.dh_syntax.specs.Expressions.Forms as form
+use Rattle.dh_syntax.specs.Expressions.Forms.{Fields, TextParts, plain_row, labels_of, values_of}
+use Rattle.dh_syntax.specs.Names.Moves.{Move, moved, moved_row}
+use Rattle.dh_syntax.specs.Expressions.Tree.{Tree, Row, Leaf, Node, end, kid, Name}
+use Rattle.dh_syntax.specs.Expressions.Views as views
 
 option_map-twice : {X Y Z W : Type 0} (f : Y → Z) (g : X → Y) (f' : W → Z) (g' : X → W) → ((x : X) → f (g x) ≡ f' (g' x))
     → (o : Option X) → option_map f (option_map g o) ≡ option_map f' (option_map g' o)

@@ -1,13 +1,13 @@
 -- A variable is free in an expression exactly where it occurs in the nameless form, and so in the α-normal form.
 use Rattle.std.specs.Prelude.{◌≡◌, ℕ, zero, suc, Bool, true, false, cond, ◌&&◌, ◌||◌, List, ◌∷◌, Option, Some, None, refl}
 use Rattle.std.proofs.Common.{ap, sym, ◌∙◌}
-use Rattle.dh_syntax.specs.Alpha.{blank, renamed, alpha_row, alpha_to, alpha}
-use Rattle.dh_syntax.specs.Moves.{moved_row}
-use Rattle.dh_syntax.specs.Nameless.{Ref, Bound, Free, past, nearest, ref_of, going_nameless, core_below, Core}
-use Rattle.dh_syntax.specs.Nesting.{nesting}
-use Rattle.dh_syntax.specs.Numbers.{eq, bytes_eq}
-use Rattle.dh_syntax.specs.Subst.{under, is_free, is_free_row}
-use Rattle.dh_syntax.specs.Tree.{Row, Leaf, Node, end, kid, Name, Var, Term}
+use Rattle.dh_syntax.specs.Names.Alpha.{blank, renamed, alpha_row, alpha_to, alpha}
+use Rattle.dh_syntax.specs.Names.Moves.{moved_row}
+use Rattle.dh_syntax.specs.Names.Nameless.{Ref, Bound, Free, past, nearest, ref_of, going_nameless, core_below, Core}
+use Rattle.dh_syntax.specs.Expressions.Nesting.{nesting}
+use Rattle.dh_syntax.specs.Expressions.Numbers.{eq, bytes_eq}
+use Rattle.dh_syntax.specs.Names.Subst.{under, is_free, is_free_row}
+use Rattle.dh_syntax.specs.Expressions.Tree.{Row, Leaf, Node, end, kid, Name, Var, Term}
 use Rattle.dh_syntax.proofs.Numbers.{and-true_left, and-true_right, eq-itself, eq-true, bytes_eq-true}
 use Rattle.dh_laws.proofs.AlphaForms.{core-renamed}
 use Rattle.dh_laws.proofs.FreeShifts.{not_this, binding_all, ref_of-binding_all}

@@ -1,10 +1,10 @@
 -- Two shifts, and a shift of what was substituted into.
 use Rattle.std.specs.Prelude.{◌≡◌, ℕ, zero, suc, Bool, true, false, cond, Some, None, refl}
 use Rattle.std.proofs.Common.{ap, sym, ◌∙◌}
-use Rattle.dh_syntax.specs.Moves.{moved_row}
-use Rattle.dh_syntax.specs.Numbers.{le, bytes_eq}
-use Rattle.dh_syntax.specs.Subst.{is_var, under, shifting, shift_up, subst, subst_row}
-use Rattle.dh_syntax.specs.Tree.{Row, Leaf, Node, end, kid, Name, Var, Term}
+use Rattle.dh_syntax.specs.Names.Moves.{moved_row}
+use Rattle.dh_syntax.specs.Expressions.Numbers.{le, bytes_eq}
+use Rattle.dh_syntax.specs.Names.Subst.{is_var, under, shifting, shift_up, subst, subst_row}
+use Rattle.dh_syntax.specs.Expressions.Tree.{Row, Leaf, Node, end, kid, Name, Var, Term}
 use Rattle.dh_syntax.proofs.Moves.{Agree, moved-agree, moved-then, then}
 use Rattle.dh_syntax.proofs.Numbers.{bytes_eq-comm}
 use Rattle.dh_laws.proofs.Shifts.{moved_index, same_test, same_test_right, leaf-up, under-shifted}

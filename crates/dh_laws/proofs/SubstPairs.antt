@@ -1,9 +1,9 @@
 -- Two substitutions, and substitution of same for same.
 use Rattle.std.specs.Prelude.{◌≡◌, ℕ, suc, Bool, true, false, cond, ◌&&◌, Option, Some, None, refl}
 use Rattle.std.proofs.Common.{ap, sym, ◌∙◌}
-use Rattle.dh_syntax.specs.Numbers.{eq, bytes_eq}
-use Rattle.dh_syntax.specs.Subst.{is_var, index_under, shift_up, put_under, subst, subst_row, is_free}
-use Rattle.dh_syntax.specs.Tree.{Row, Leaf, Node, end, kid, Name, Var, Term}
+use Rattle.dh_syntax.specs.Expressions.Numbers.{eq, bytes_eq}
+use Rattle.dh_syntax.specs.Names.Subst.{is_var, index_under, shift_up, put_under, subst, subst_row, is_free}
+use Rattle.dh_syntax.specs.Expressions.Tree.{Row, Leaf, Node, end, kid, Name, Var, Term}
 use Rattle.dh_syntax.proofs.Numbers.{and-true_left, and-true_right, eq-true, bytes_eq-true, bytes_eq-comm}
 use Rattle.dh_laws.proofs.ShiftPairs.{up-subst}
 use Rattle.dh_laws.proofs.Shifts.{same_test_right, subst-not_free, not_free-put_under}

@@ -2,10 +2,10 @@
 use Rattle.std.specs.Prelude.{◌≡◌, ℕ, false}
 use Rattle.std.specs.Bool.{Decides}
 use Rattle.dh_syntax.specs.declared.expressions.Op.{Op}
-use Rattle.dh_syntax.specs.Alpha.{alpha_row, alpha, IsSame, same}
-use Rattle.dh_syntax.specs.Nesting.{nesting}
-use Rattle.dh_syntax.specs.Subst.{shift_up, shift_down, subst, is_free}
-use Rattle.dh_syntax.specs.Tree.{Row, Leaf, Node, Name, Var, Term}
+use Rattle.dh_syntax.specs.Names.Alpha.{alpha_row, alpha, IsSame, same}
+use Rattle.dh_syntax.specs.Expressions.Nesting.{nesting}
+use Rattle.dh_syntax.specs.Names.Subst.{shift_up, shift_down, subst, is_free}
+use Rattle.dh_syntax.specs.Expressions.Tree.{Row, Leaf, Node, Name, Var, Term}
 
 -- The α-normal form of a variable, and that of a node by those of its parts.
 abbrev pub AlphaVariable : Type 0

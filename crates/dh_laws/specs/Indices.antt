@@ -1,10 +1,10 @@
 -- How far indices reach, and what keeps them so.
 use Rattle.std.specs.Prelude.{◌+◌, ◌≤◌, ℕ, suc, List, [], ◌∷◌, Option}
-use Rattle.dh_syntax.specs.Alpha.{alpha}
-use Rattle.dh_syntax.specs.Indices.{IndicesBelow, with_binder, FreeIndicesBelow}
-use Rattle.dh_syntax.specs.Nesting.{nesting}
-use Rattle.dh_syntax.specs.Subst.{put_under, shift_up, subst}
-use Rattle.dh_syntax.specs.Tree.{Name, Term}
+use Rattle.dh_syntax.specs.Names.Alpha.{alpha}
+use Rattle.dh_syntax.specs.Names.Indices.{IndicesBelow, with_binder, FreeIndicesBelow}
+use Rattle.dh_syntax.specs.Expressions.Nesting.{nesting}
+use Rattle.dh_syntax.specs.Names.Subst.{put_under, shift_up, subst}
+use Rattle.dh_syntax.specs.Expressions.Tree.{Name, Term}
 use Rattle.dh_laws.specs.Substituting.{put}
 
 -- Indices that are below a limit are below it and the number of binders together, and the other way round these are below the limit and the nesting together.

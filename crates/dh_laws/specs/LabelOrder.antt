@@ -1,6 +1,6 @@
 -- The order of labels by their bytes.
 use Rattle.std.specs.Prelude.{◌≡◌, ℕ, List, true, false}
-use Rattle.dh_syntax.specs.Order.{before}
+use Rattle.dh_syntax.specs.Expressions.Order.{before}
 
 -- no label comes before itself
 abbrev pub Irreflexive : Type 0

@@ -1,9 +1,9 @@
 -- Going nameless and back, and what α-normal forms, shifts and substitutions are on nameless forms.
 use Rattle.std.specs.Prelude.{◌≡◌, ◌↔◌, ℕ, suc, List, ◌∷◌}
-use Rattle.dh_syntax.specs.Alpha.{alpha, IsSame}
-use Rattle.dh_syntax.specs.Nameless.{Ref, Bound, ref_of, core_below, term_below, to_core, from_core, forget, with_blanks, bare, lifted, ren, raised, sub, first, at_place, Core}
-use Rattle.dh_syntax.specs.Subst.{shift_up, subst}
-use Rattle.dh_syntax.specs.Tree.{Tree, Leaf, Name, Term}
+use Rattle.dh_syntax.specs.Names.Alpha.{alpha, IsSame}
+use Rattle.dh_syntax.specs.Names.Nameless.{Ref, Bound, ref_of, core_below, term_below, to_core, from_core, forget, with_blanks, bare, lifted, ren, raised, sub, first, at_place, Core}
+use Rattle.dh_syntax.specs.Names.Subst.{shift_up, subst}
+use Rattle.dh_syntax.specs.Expressions.Tree.{Tree, Leaf, Name, Term}
 use Rattle.dh_laws.specs.Substituting.{put}
 
 -- Reading names back undoes going nameless.

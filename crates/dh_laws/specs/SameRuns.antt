@@ -1,11 +1,11 @@
 -- Runs of expressions that differ only in the names of their binders.
 use Rattle.std.specs.Prelude.{◌≡◌, ℕ}
-use Rattle.dh_syntax.specs.Alpha.{IsSame}
-use Rattle.dh_syntax.specs.Heads.{Mode, Answer, Found, Wide, Deep, Over, run}
-use Rattle.dh_syntax.specs.Named.{names}
-use Rattle.dh_syntax.specs.Nesting.{nesting}
-use Rattle.dh_syntax.specs.Normal.{endless, HasNormalForm, HasWholeCost, AreEquivalent, HasCost, plain_answer}
-use Rattle.dh_syntax.specs.Tree.{Term}
+use Rattle.dh_syntax.specs.Names.Alpha.{IsSame}
+use Rattle.dh_syntax.specs.Normalising.Heads.{Mode, Answer, Found, Wide, Deep, Over, run}
+use Rattle.dh_syntax.specs.Normalising.Named.{names}
+use Rattle.dh_syntax.specs.Expressions.Nesting.{nesting}
+use Rattle.dh_syntax.specs.Normalising.Normal.{endless, HasNormalForm, HasWholeCost, AreEquivalent, HasCost, plain_answer}
+use Rattle.dh_syntax.specs.Expressions.Tree.{Term}
 
 -- the second answer is the first one, but for the names of binders in what is found
 abbrev pub IsSameAnswer : Answer Term → Answer Term → Type 0

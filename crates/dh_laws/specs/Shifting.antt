@@ -1,9 +1,9 @@
 -- What shifting keeps, and how shifts go together.
 use Rattle.std.specs.Prelude.{◌≡◌, ℕ, suc, true, false, cond}
-use Rattle.dh_syntax.specs.Nesting.{nesting}
-use Rattle.dh_syntax.specs.Numbers.{le, bytes_eq}
-use Rattle.dh_syntax.specs.Subst.{reindexed, shift_up, shift_down, is_free}
-use Rattle.dh_syntax.specs.Tree.{Name, Term}
+use Rattle.dh_syntax.specs.Expressions.Nesting.{nesting}
+use Rattle.dh_syntax.specs.Expressions.Numbers.{le, bytes_eq}
+use Rattle.dh_syntax.specs.Names.Subst.{reindexed, shift_up, shift_down, is_free}
+use Rattle.dh_syntax.specs.Expressions.Tree.{Name, Term}
 
 -- the index of `y@k` after shifting up at x from m
 abbrev pub index_up : Name → ℕ → Name → ℕ → ℕ

@@ -1,9 +1,9 @@
 -- What substitution keeps, and how it goes together with shifts and other substitutions.
 use Rattle.std.specs.Prelude.{◌≡◌, ◌≤◌, ◌+◌, ℕ, false, ◌&&◌}
-use Rattle.dh_syntax.specs.Nesting.{nesting}
-use Rattle.dh_syntax.specs.Numbers.{eq, bytes_eq}
-use Rattle.dh_syntax.specs.Subst.{under, shift_up, shift_down, subst, is_free}
-use Rattle.dh_syntax.specs.Tree.{Leaf, Name, Var, Term}
+use Rattle.dh_syntax.specs.Expressions.Nesting.{nesting}
+use Rattle.dh_syntax.specs.Expressions.Numbers.{eq, bytes_eq}
+use Rattle.dh_syntax.specs.Names.Subst.{under, shift_up, shift_down, subst, is_free}
+use Rattle.dh_syntax.specs.Expressions.Tree.{Leaf, Name, Var, Term}
 use Rattle.dh_laws.specs.Shifting.{index_up}
 
 -- `b` with `a` for the variable of a binder of y, which is taken away: what `(λ(y : T) → b) a` becomes (the standard's "β-normalization", "Functions")

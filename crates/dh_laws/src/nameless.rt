@@ -1,6 +1,6 @@
 //! Laws of nameless forms.
 ghost use Rattle.dh_laws.specs.Nameless.{ReadingBack, ReadingBackBelow, SameIsBare, AlphaReadsBare, CoreOfShiftUp, CoreOfSubst, CoreOfPut, RenOfRen, SubOfRen, RenOfSub, SubOfSub, SubOfVariables, RenIsSub, SubOfFirst, RenOfFirst, ForgetOfSub};
-ghost use Rattle.dh_syntax.specs.Tree.{Name};
+ghost use Rattle.dh_syntax.specs.Expressions.Tree.{Name};
 
 /// Reading names back undoes going nameless.
 pub fn reading_back()

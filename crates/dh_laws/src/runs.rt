@@ -1,8 +1,8 @@
 //! Laws of runs: what more units and more heights change, and that normal forms and costs are one. They hold for every
 //! language over the expressions that are named.
 ghost use Rattle.dh_laws.specs.Runs.{MoreUnits, MoreUnitsPlain, MoreHeights, WithoutNesting, OneAnswer, OneNormalForm, EquivalentByNormalForms, OneWholeCost, OneCost, CostOfRun, OverBelowCost, WholeCostOfRun, OverBelowWholeCost};
-ghost use Rattle.dh_syntax.specs.Nameless.{Core, Bare};
-ghost use Rattle.dh_syntax.specs.Tree.{Term};
+ghost use Rattle.dh_syntax.specs.Names.Nameless.{Core, Bare};
+ghost use Rattle.dh_syntax.specs.Expressions.Tree.{Term};
 
 /// More units change no answer but that the units were too few.
 pub fn more_units()

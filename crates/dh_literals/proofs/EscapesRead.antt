@@ -12,9 +12,9 @@ use Rattle.std.specs.List.{prefix_len, list_all}
 use Rattle.std.specs.Result.{OkIff, result_ok}
 use Rattle.std.specs.Str.{IsUtf8, IsCharBoundary, byte}
 use Rattle.std.specs.Str.Parse.{IsNumeral, ParsesUnsigned, digits_value}
-use Rattle.dh_syntax.specs.Characters.{first, is_scalar, is_noncharacter}
-use Rattle.dh_syntax.specs.Literals.{escaped, numbered, unicode_escape}
-use Rattle.dh_syntax.specs.Stretches.{Character, Reads, Faults}
+use Rattle.dh_syntax.specs.Text.Characters.{first, is_scalar, is_noncharacter}
+use Rattle.dh_syntax.specs.Text.Literals.{escaped, numbered, unicode_escape}
+use Rattle.dh_syntax.specs.Text.Stretches.{Character, Reads, Faults}
 use Rattle.dh_syntax.proofs.Numbers.{and-true_right}
 use Rattle.dh_literals.specs.Escape.{IsNamed, IsRead}
 use Rattle.dh_literals.proofs.Fronts.{taken, length-taken, front_passes, passing_boundary}

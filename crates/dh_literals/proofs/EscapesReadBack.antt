@@ -7,9 +7,9 @@ use Rattle.std.proofs.lemmas.Str.{char_from_byte, encode_ascii}
 use Rattle.std.specs.Char.{digit_value, is_ascii_hexdigit}
 use Rattle.std.specs.Str.{IsUtf8, byte}
 use Rattle.std.specs.Str.Parse.{digits_value}
-use Rattle.dh_syntax.specs.Characters.{is_scalar, is_noncharacter}
-use Rattle.dh_syntax.specs.Literals.{escape, escape_byte, escaped, hex_digit, numbered, escape_or_character, text_of, unescape, unicode_escape}
-use Rattle.dh_syntax.specs.Stretches.{Reads, Faults, stretch}
+use Rattle.dh_syntax.specs.Text.Characters.{is_scalar, is_noncharacter}
+use Rattle.dh_syntax.specs.Text.Literals.{escape, escape_byte, escaped, hex_digit, numbered, escape_or_character, text_of, unescape, unicode_escape}
+use Rattle.dh_syntax.specs.Text.Stretches.{Reads, Faults, stretch}
 use Rattle.dh_syntax.proofs.Numbers.{and-true_left, and-true_right}
 use Rattle.dh_literals.proofs.Stretching.{onto, onto-none, onto-onto, one_character, one_escape, some_bytes}
 use Rattle.dh_literals.proofs.EscapesWritten.{escape-append, plain_character, control_byte}

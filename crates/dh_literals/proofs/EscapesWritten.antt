@@ -9,7 +9,7 @@ use Rattle.std.specs.Fmt.{AppendsText, ◌++?◌, digits, digit_glyph, digits_ou
 use Rattle.std.specs.Option.{option_map}
 use Rattle.std.specs.Result.{is_ok}
 use Rattle.std.specs.Str.{byte}
-use Rattle.dh_syntax.specs.Literals.{escape, escape_byte, hex_digit}
+use Rattle.dh_syntax.specs.Text.Literals.{escape, escape_byte, hex_digit}
 
 pub escape-append : (xs ys : List ℕ) → escape (xs ++ ys) ≡ escape xs ++ escape ys
 escape-append [] ys = refl

@@ -2,8 +2,8 @@
 use Rattle.std.proofs.Common.{◌≡◌, ℕ, suc, ◌<◌, ◌≢◌, Bool, true, false, cond, List, [], ◌∷◌, ◌++◌, length, ◌==◌, refl, ap, sym, ◌∙◌, arith}
 use Rattle.std.proofs.lemmas.Bool.Decides.{nat_tests}
 use Rattle.std.specs.List.{onto_first}
-use Rattle.dh_syntax.specs.Characters.{line_feed}
-use Rattle.dh_syntax.specs.Literals.{counted, lines_of}
+use Rattle.dh_syntax.specs.Text.Characters.{line_feed}
+use Rattle.dh_syntax.specs.Text.Literals.{counted, lines_of}
 use Rattle.dh_literals.proofs.SplitParts.{Lacks, SplitAt}
 
 lacks_first : (b : ℕ) (bs : List ℕ) → Lacks line_feed (b ∷ bs) → (b == line_feed) ≡ false

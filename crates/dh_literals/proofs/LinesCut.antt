@@ -6,8 +6,8 @@ use Rattle.std.proofs.lemmas.List.Sums.{common_prefix_len-le}
 use Rattle.std.specs.List.{common_prefix_len, prefix_len, join_with_byte, list_all}
 use Rattle.std.specs.Result.{is_ok}
 use Rattle.std.specs.Str.{IsUtf8, IsCharBoundary}
-use Rattle.dh_syntax.specs.Characters.{line_feed}
-use Rattle.dh_syntax.specs.Literals.{common, counted, counted_later, counted_lines, indentation, indented_by, lines_of, cut, cut_later, cut_pieces, unindent}
+use Rattle.dh_syntax.specs.Text.Characters.{line_feed}
+use Rattle.dh_syntax.specs.Text.Literals.{common, counted, counted_later, counted_lines, indentation, indented_by, lines_of, cut, cut_later, cut_pieces, unindent}
 use Rattle.dh_syntax.proofs.Numbers.{and-true_left, and-true_right}
 use Rattle.dh_literals.specs.Indentation.{is_blank, is_blank_before}
 use Rattle.dh_literals.proofs.Fronts.{front_passes, length-taken, all_front, passing_boundary}

@@ -5,8 +5,8 @@ use Rattle.std.proofs.str.Laws.{Shape, shape, of1, of2, of3, of4}
 use Rattle.std.proofs.lemmas.Bool.Decides.{nat_tests}
 use Rattle.std.proofs.lemmas.List.{drop_at, take_at, get_or_append_left, get_or-append-add}
 use Rattle.std.specs.Str.{IsUtf8, byte, continuation_len}
-use Rattle.dh_syntax.specs.Literals.{escaped, escape_or_character}
-use Rattle.dh_syntax.specs.Stretches.{Character, Reads, Faults, Stretch, UpTo, FaultAt, by_character, further, stretch, itself}
+use Rattle.dh_syntax.specs.Text.Literals.{escaped, escape_or_character}
+use Rattle.dh_syntax.specs.Text.Stretches.{Character, Reads, Faults, Stretch, UpTo, FaultAt, by_character, further, stretch, itself}
 use Rattle.dh_syntax.proofs.LexingLaws.{lengthened, stretch-skip}
 use Rattle.dh_syntax.proofs.Numbers.{and-true_left, and-true_right}
 

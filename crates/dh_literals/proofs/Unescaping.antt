@@ -3,8 +3,8 @@ use Rattle.std.proofs.Common.{◌≡◌, ℕ, ◌+◌, ◌-◌, ◌≤◌, List,
 use Rattle.std.proofs.lemmas.Str.{IsUtf8-drop}
 use Rattle.std.specs.Char.{encode_utf8}
 use Rattle.std.specs.Str.{IsUtf8, IsCharBoundary, byte}
-use Rattle.dh_syntax.specs.Literals.{escaped, escape_or_character, text_of, unescape}
-use Rattle.dh_syntax.specs.Stretches.{UpTo, Reads, Faults, stretch}
+use Rattle.dh_syntax.specs.Text.Literals.{escaped, escape_or_character, text_of, unescape}
+use Rattle.dh_syntax.specs.Text.Stretches.{UpTo, Reads, Faults, stretch}
 use Rattle.dh_literals.specs.Escape.{IsRead}
 use Rattle.dh_literals.proofs.SplitParts.{Lacks, SplitAt, split_size, before_utf8, after_utf8}
 use Rattle.dh_literals.proofs.Stretching.{onto, onto-none, onto-onto, plain_text, one_escape, no_escape}

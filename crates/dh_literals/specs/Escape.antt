@@ -1,8 +1,8 @@
 -- What the readers of escapes answer.
 use Rattle.std.specs.Prelude.{◌≡◌, ℕ, ◌+◌, not, ◌&&◌, true, false, List, Option, Some, None, Result, Err, encode_utf8}
 use Rattle.std.specs.Str.{IsCharBoundary}
-use Rattle.dh_syntax.specs.Characters.{is_scalar, is_noncharacter}
-use Rattle.dh_syntax.specs.Stretches.{Character, Reads, Faults}
+use Rattle.dh_syntax.specs.Text.Characters.{is_scalar, is_noncharacter}
+use Rattle.dh_syntax.specs.Text.Stretches.{Character, Reads, Faults}
 use Rattle.dh_literals.specs.declared.faults.LitFault.{LitFault}
 use Rattle.dh_literals.specs.declared.faults.LitFault.TheVariants.{BadEscape, Memory}
 

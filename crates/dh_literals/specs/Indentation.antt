@@ -2,8 +2,8 @@
 use Rattle.std.specs.Prelude.{ℕ, Bool, ◌||◌, ◌==◌, List, ◌∷◌, take, Option, Some, None}
 use Rattle.std.specs.List.{list_all}
 use Rattle.std.specs.Str.{byte}
-use Rattle.dh_syntax.specs.Characters.{tab}
-use Rattle.dh_syntax.specs.Literals.{common}
+use Rattle.dh_syntax.specs.Text.Characters.{tab}
+use Rattle.dh_syntax.specs.Text.Literals.{common}
 
 -- the longest common prefix of several texts and of this one, if there is one
 abbrev pub common_with : Option (List ℕ) → List (List ℕ) → List ℕ

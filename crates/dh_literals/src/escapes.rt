@@ -2,7 +2,7 @@ ghost use Rattle.std.specs.Prelude.{◌≡◌, ◌<◌, ◌≤◌, take, Ok, IfO
 ghost use Rattle.std.specs.Char.{is_ascii_hexdigit};
 ghost use Rattle.std.specs.List.{prefix_len};
 ghost use Rattle.std.specs.Str.Parse.{digits_value};
-ghost use Rattle.dh_syntax.specs.Literals.{escaped, unicode_escape, unescape};
+ghost use Rattle.dh_syntax.specs.Text.Literals.{escaped, unicode_escape, unescape};
 ghost use Rattle.dh_literals.specs.Escape.{IsFault, IsNamed, IsRead};
 
 use crate::faults::LitFault;

@@ -1,5 +1,5 @@
 ghost use Rattle.std.specs.Prelude.{◌≡◌, ◌++◌, string_bytes, encode_utf8, IfOk, OnOk};
-ghost use Rattle.dh_syntax.specs.Literals.{escape};
+ghost use Rattle.dh_syntax.specs.Text.Literals.{escape};
 
 use dh_syntax::Piece;
 use std::alloc::{AllocError, Global};

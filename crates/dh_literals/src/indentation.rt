@@ -1,8 +1,8 @@
 ghost use Rattle.std.specs.Prelude.{◌≡◌, [], ◌∷◌, ◌++◌, map, take, drop, nat_eq, string_bytes, IsTrue, IfOk, OnOk};
 ghost use Rattle.std.specs.List.{common_prefix_len, prefix_len, join_with_byte, list_all};
 ghost use Rattle.std.specs.Option.{option_copied};
-ghost use Rattle.dh_syntax.specs.Characters.{line_feed};
-ghost use Rattle.dh_syntax.specs.Literals.{common, lines_of, counted, indentation, indented_by, cut, cut_later, unindent};
+ghost use Rattle.dh_syntax.specs.Text.Characters.{line_feed};
+ghost use Rattle.dh_syntax.specs.Text.Literals.{common, lines_of, counted, indentation, indented_by, cut, cut_later, unindent};
 ghost use Rattle.dh_literals.specs.Indentation.{common_with, is_blank, is_blank_before};
 
 use dh_syntax::{Many, Piece, Pieces};

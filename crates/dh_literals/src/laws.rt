@@ -1,8 +1,8 @@
 //! Laws of literals, for the crates that rest on them: each is the contract of a function that does nothing.
 ghost use Rattle.std.specs.Prelude.{◌≡◌, ℕ, ◌^◌, ◌<◌, ℤ, List, Some, Ok, IsTrue};
 ghost use Rattle.std.specs.Str.{IsUtf8};
-ghost use Rattle.dh_syntax.specs.Literals.{escape, unescape};
-ghost use Rattle.dh_syntax.specs.Numerals.{integer_fits, is_integer, is_natural, read_integer, read_natural, write_integer, write_natural};
+ghost use Rattle.dh_syntax.specs.Text.Literals.{escape, unescape};
+ghost use Rattle.dh_syntax.specs.Text.Numerals.{integer_fits, is_integer, is_natural, read_integer, read_natural, write_integer, write_natural};
 
 /// A printed natural is one natural literal, and is read as that natural.
 pub fn natural_read_back()

@@ -1,5 +1,5 @@
 ghost use Rattle.std.specs.Prelude.{◌≡◌, IsTrue, IfOk};
-ghost use Rattle.dh_syntax.specs.Numerals.{is_natural, is_integer, read_natural, read_integer, write_natural, write_integer};
+ghost use Rattle.dh_syntax.specs.Text.Numerals.{is_natural, is_integer, read_natural, read_integer, write_natural, write_integer};
 
 use dh_syntax::Piece;
 use itoa::Buffer;

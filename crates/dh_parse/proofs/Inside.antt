@@ -2,7 +2,7 @@
 use Rattle.std.proofs.Common.{◌≡◌, ℕ, suc, ◌<◌, ◌≤◌, ◌^◌, Bool, true, false, List, [], ◌∷◌, take, length, ap, arith, eqb-true, length-take}
 use Rattle.std.specs.Prelude.{◌==◌, nat_lt, ◌&&◌, ◌||◌, codes, if◌then◌else◌}
 use Rattle.dh_syntax.proofs.Numbers.{and-true_right, bytes_eq-true}
-use Rattle.dh_syntax.specs.Numbers.{bytes_eq}
+use Rattle.dh_syntax.specs.Expressions.Numbers.{bytes_eq}
 use Rattle.dh_syntax.specs.declared.operators.BinOp.TheVariants as op
 use Rattle.dh_parse.specs.Fronts.{IsInside}
 use Rattle.dh_parse.specs.SmallTokens.{Front, number, truth, open', close, mark, white, sign, nothing, is_digit, begins_name, goes_on_name, run_length, decimal_value, number_length, number_front, name_front, second, front}

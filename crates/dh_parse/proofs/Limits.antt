@@ -2,8 +2,8 @@
 use Rattle.std.proofs.Common.{◌≡◌, ℕ, suc, ◌+◌, ◌≤◌, max, Bool, List, [], ◌∷◌, Some, refl, ap, subst, arith}
 use Rattle.std.specs.Prelude.{nat_le, nat_lt}
 use Rattle.dh_syntax.specs.declared.operators.BinOp.{BinOp}
-use Rattle.dh_syntax.specs.Nesting.{nesting}
-use Rattle.dh_syntax.specs.Tree.{Term}
+use Rattle.dh_syntax.specs.Expressions.Nesting.{nesting}
+use Rattle.dh_syntax.specs.Expressions.Tree.{Term}
 use Rattle.dh_parse.specs.SmallTokens.{Symbol, Sign, number, truth, open', close, mark}
 use Rattle.dh_parse.specs.SmallGrammar.{Derivation, natural, truth_value, operation, level, opens}
 use Rattle.dh_parse.specs.SmallMachine.{State, bracket, pending, expecting, holding, stopped, trees, terms, may_stand, hold, await_right, open_bracket, close_bracket, reduce, reduced, after, run, read, IsRunning}

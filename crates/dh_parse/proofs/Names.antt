@@ -2,7 +2,7 @@
 use Rattle.std.proofs.Common.{◌≡◌, ℕ, false, List, ◌∙◌, eqb, take}
 use Rattle.std.specs.Prelude.{codes}
 use Rattle.dh_syntax.proofs.NativeTests.{bytes_eq-pointwise}
-use Rattle.dh_syntax.specs.Numbers.{bytes_eq}
+use Rattle.dh_syntax.specs.Expressions.Numbers.{bytes_eq}
 use Rattle.dh_parse.specs.SmallTokens.{goes_on_name, run_length, name_front, nothing}
 use lib.Pointwise.{pointwise}
 

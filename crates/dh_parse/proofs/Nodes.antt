@@ -2,10 +2,10 @@
 use Rattle.std.proofs.Common.{◌≡◌, List, [], ◌∷◌, ◌++◌, None, sym, ◌∙◌, ap}
 use Rattle.dh_syntax.proofs.Bridge.{term-Node, row_of-nil}
 use Rattle.dh_syntax.proofs.Rows.{row_of-two}
-use Rattle.dh_syntax.specs.Bridge.{term, row_of}
-use Rattle.dh_syntax.specs.Nesting.{nesting}
-use Rattle.dh_syntax.specs.Tree as tree
-use Rattle.dh_syntax.specs.Tree.{end, kid}
+use Rattle.dh_syntax.specs.Expressions.Bridge.{term, row_of}
+use Rattle.dh_syntax.specs.Expressions.Nesting.{nesting}
+use Rattle.dh_syntax.specs.Expressions.Tree as tree
+use Rattle.dh_syntax.specs.Expressions.Tree.{end, kid}
 use Rattle.dh_syntax.specs.declared.expressions.Expr.{Expr}
 use Rattle.dh_syntax.specs.declared.expressions.Expr.TheVariants as expr
 use Rattle.dh_syntax.specs.declared.expressions.Kid.{Kid}

@@ -2,8 +2,8 @@
 use Rattle.std.proofs.Common.{◌≡◌, ℕ, ◌≤◌, Bool, true, List, [], ◌∷◌, Option, Some, None, refl, sym, ◌∙◌, ap, subst, arith, le-leb, leb-true, length}
 use Rattle.std.specs.Prelude.{nat_le}
 use Rattle.dh_syntax.proofs.Numbers.{and-true_left, and-true_right}
-use Rattle.dh_syntax.specs.Nesting.{nesting}
-use Rattle.dh_syntax.specs.Tree.{Term}
+use Rattle.dh_syntax.specs.Expressions.Nesting.{nesting}
+use Rattle.dh_syntax.specs.Expressions.Tree.{Term}
 use Rattle.dh_parse.specs.SmallTokens.{Sign, tokens_of}
 use Rattle.dh_parse.specs.SmallGrammar.{Derivation, yield, meaning, opens}
 use Rattle.dh_parse.specs.SmallSpelling.{Spells}

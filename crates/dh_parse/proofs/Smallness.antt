@@ -1,10 +1,10 @@
 -- What a text spells is an expression of the small language.
 use Rattle.std.proofs.Common.{◌≡◌, ℕ, zero, suc, ◌-◌, ◌^◌, ◌<◌, Bool, true, false, List, [], ◌∷◌, ◌++◌, take, Option, Some, None, refl, subst, ltb-true}
 use Rattle.std.specs.Prelude.{◌==◌, nat_lt, ◌&&◌, ◌||◌, codes, if◌then◌else◌}
-use Rattle.dh_syntax.specs.Arity.{IsWellFormed}
-use Rattle.dh_syntax.specs.Numbers.{bytes_eq}
+use Rattle.dh_syntax.specs.Expressions.Arity.{IsWellFormed}
+use Rattle.dh_syntax.specs.Expressions.Numbers.{bytes_eq}
 use Rattle.dh_syntax.specs.declared.operators.BinOp.TheVariants as op
-use Rattle.dh_syntax.specs.Tree.{Term}
+use Rattle.dh_syntax.specs.Expressions.Tree.{Term}
 use Rattle.dh_parse.specs.SmallTokens.{Symbol, Sign, Front, number, truth, open', close, mark, white, sign, nothing, is_digit, begins_name, goes_on_name, run_length, decimal_value, number_length, number_front, name_front, second, front, followed, tokens_from}
 use Rattle.dh_parse.specs.SmallGrammar.{Derivation, natural, truth_value, brackets, operation, yield, meaning, IsDerived}
 use Rattle.dh_parse.specs.SmallSpelling.{Spells}

@@ -2,8 +2,8 @@
 use Rattle.std.proofs.Common.{◌≡◌, ℕ, suc, ◌-◌, ◌<◌, ◌≤◌, Bool, true, false, List, [], ◌∷◌, ◌++◌, length, take, Option, Some, None, refl, sym, ◌∙◌, ap, subst, arith, append-nil, le-leb}
 use Rattle.std.specs.Prelude.{slice_get, option_copied, option_to_list, if◌then◌else◌}
 use denote.Bor.{Bor}
-use Rattle.dh_syntax.specs.Nesting.{nesting}
-use Rattle.dh_syntax.specs.Tree.{Term}
+use Rattle.dh_syntax.specs.Expressions.Nesting.{nesting}
+use Rattle.dh_syntax.specs.Expressions.Tree.{Term}
 use Rattle.dh_syntax.specs.declared.operators.BinOp.{BinOp}
 use Rattle.dh_parse.specs.declared.stacks.Pending.{Pending}
 use Rattle.dh_parse.specs.declared.stacks.Pending.TheVariants.{Bracket, Left}

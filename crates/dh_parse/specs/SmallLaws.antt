@@ -1,7 +1,7 @@
 -- Laws of the spelling of the small language.
 use Rattle.std.specs.Prelude.{◌≡◌, ◌↔◌, ℕ, List, []}
-use Rattle.dh_syntax.specs.Arity.{IsWellFormed}
-use Rattle.dh_syntax.specs.Tree.{Term}
+use Rattle.dh_syntax.specs.Expressions.Arity.{IsWellFormed}
+use Rattle.dh_syntax.specs.Expressions.Tree.{Term}
 use Rattle.dh_parse.specs.SmallTokens.{Sign}
 use Rattle.dh_parse.specs.SmallGrammar.{Derivation, yield, IsDerived}
 use Rattle.dh_parse.specs.SmallSpelling.{Spells, CanGoOn}

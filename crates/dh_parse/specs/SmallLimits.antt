@@ -1,7 +1,7 @@
 -- The machine over expressions, which stops where an operand nests deeper than 500 or more than 499 brackets are open.
 use Rattle.std.specs.Prelude.{ℕ, suc, max, nat_le, Bool, ◌&&◌, if◌then◌else◌, List, [], ◌∷◌, Option, Some, None}
-use Rattle.dh_syntax.specs.Nesting.{nesting}
-use Rattle.dh_syntax.specs.Tree.{Term}
+use Rattle.dh_syntax.specs.Expressions.Nesting.{nesting}
+use Rattle.dh_syntax.specs.Expressions.Tree.{Term}
 use Rattle.dh_parse.specs.SmallTokens.{Sign}
 use Rattle.dh_parse.specs.SmallMachine.{Item, State, bracket, pending, expecting, holding, stopped, terms, reduced, after, alone}
 

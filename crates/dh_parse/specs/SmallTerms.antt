@@ -1,8 +1,8 @@
 -- The expressions of the small language.
 use Rattle.std.specs.Prelude.{◌<◌, ◌^◌, None}
 use Rattle.dh_syntax.specs.declared.expressions.Op.TheVariants as ops
-use Rattle.dh_syntax.specs.Tree as tree
-use Rattle.dh_syntax.specs.Tree.{Term, end, kid}
+use Rattle.dh_syntax.specs.Expressions.Tree as tree
+use Rattle.dh_syntax.specs.Expressions.Tree.{Term, end, kid}
 use Rattle.dh_parse.specs.SmallGrammar.{level}
 
 -- a natural number below 2^64, a truth value, or one of the four operators with its two parts

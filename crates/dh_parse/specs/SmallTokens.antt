@@ -2,7 +2,7 @@
 use Rattle.std.specs.Prelude.{ℕ, zero, suc, ◌+◌, ◌*◌, ◌-◌, ◌^◌, ◌==◌, nat_lt, nat_le, ◌&&◌, ◌||◌, Bool, true, false, if◌then◌else◌, List, [], ◌∷◌, take, Option, Some, None, codes}
 use Rattle.dh_syntax.specs.declared.operators.BinOp.{BinOp}
 use Rattle.dh_syntax.specs.declared.operators.BinOp.TheVariants as op
-use Rattle.dh_syntax.specs.Numbers.{bytes_eq}
+use Rattle.dh_syntax.specs.Expressions.Numbers.{bytes_eq}
 
 pub data Symbol : Type 0 where
   number : ℕ → Symbol

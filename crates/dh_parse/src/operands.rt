@@ -1,7 +1,7 @@
 //! Expressions that are being read, with their nesting.
 ghost use Rattle.std.specs.Prelude.{◌≡◌, ◌≢◌, ◌<◌, ◌≤◌, IfOk, IfErr};
-ghost use Rattle.dh_syntax.specs.Bridge.{term};
-ghost use Rattle.dh_syntax.specs.Nesting.{nesting};
+ghost use Rattle.dh_syntax.specs.Expressions.Bridge.{term};
+ghost use Rattle.dh_syntax.specs.Expressions.Nesting.{nesting};
 ghost use Rattle.dh_syntax.specs.declared.faults.ParseFault.TheVariants.{Memory, Syntax};
 ghost use Rattle.dh_parse.specs.SmallMachine.{terms};
 

@@ -1,6 +1,6 @@
 //! The stack of open brackets and of left operands that wait for the right ones.
 ghost use Rattle.std.specs.Prelude.{◌≡◌, ◌≢◌, ◌<◌, ◌≤◌, [], ◌∷◌, length, Some, None, MatchOption, IsTrue, ◌↔◌, OnOk, OnErr, IfOk, IfErr, IfNone, IfSome};
-ghost use Rattle.dh_syntax.specs.Tree.{Term};
+ghost use Rattle.dh_syntax.specs.Expressions.Tree.{Term};
 ghost use Rattle.dh_syntax.specs.declared.faults.ParseFault.TheVariants.{Memory, Syntax};
 ghost use Rattle.dh_parse.specs.Operands.{term_of};
 ghost use Rattle.dh_parse.specs.Pendings.{items_on, top_operator, tops_bracket, IsLow};

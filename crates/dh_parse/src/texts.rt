@@ -1,8 +1,8 @@
 //! From the bytes of a text to the expression that they spell.
 ghost use Rattle.std.specs.Prelude.{◌≡◌, ◌≢◌, ◌≤◌, Some, None, IfOk, IfErr, Ok, Err, length, drop};
-ghost use Rattle.dh_syntax.specs.Arity.{IsWellFormed};
-ghost use Rattle.dh_syntax.specs.Bridge.{term};
-ghost use Rattle.dh_syntax.specs.Nesting.{nesting};
+ghost use Rattle.dh_syntax.specs.Expressions.Arity.{IsWellFormed};
+ghost use Rattle.dh_syntax.specs.Expressions.Bridge.{term};
+ghost use Rattle.dh_syntax.specs.Expressions.Nesting.{nesting};
 ghost use Rattle.dh_syntax.specs.declared.faults.ParseFault.TheVariants.{Memory, Syntax};
 ghost use Rattle.dh_parse.specs.SmallLimits.{read_within, outcome};
 ghost use Rattle.dh_parse.specs.SmallSpelling.{ParsesTo};

@@ -2,8 +2,8 @@
 use Rattle.std.proofs.Common.{ℕ, true, false, if◌then◌else◌, List, [], ◌∷◌, ◌++◌, Option, Some, None, IsTrue, map, codes, refl}
 use Rattle.dh_syntax.specs.declared.locations.Loc.{Loc}
 use Rattle.dh_syntax.specs.declared.locations.Loc.TheVariants as locs
-use Rattle.dh_syntax.specs.Arity.{has_some, loc_fits}
-use Rattle.dh_syntax.specs.Locations.{Comps, folder, is_up, canon_folder, canon_path, relative, canon, url_component, joined, from_parent, chain}
+use Rattle.dh_syntax.specs.Expressions.Arity.{has_some, loc_fits}
+use Rattle.dh_syntax.specs.Imports.Locations.{Comps, folder, is_up, canon_folder, canon_path, relative, canon, url_component, joined, from_parent, chain}
 use Rattle.dh_syntax.proofs.LocationLaws.{has_file}
 
 some-last : (f : Comps) (x : List ℕ) → IsTrue (has_some (f ++ x ∷ []))

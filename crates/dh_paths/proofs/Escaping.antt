@@ -3,7 +3,7 @@ use Rattle.std.proofs.Common.{◌≡◌, ℕ, if◌then◌else◌, ◌/◌, ◌%
 use Rattle.std.specs.Fmt.{digit_glyph}
 use Rattle.std.proofs.lemmas.Bool.{agree_below, agree_below_at, cases_Bool}
 use Rattle.std.proofs.lemmas.List.Elements.{All-head, All-tail}
-use Rattle.dh_syntax.specs.Locations.{is_kept_in_url, percent_escape, url_component}
+use Rattle.dh_syntax.specs.Imports.Locations.{is_kept_in_url, percent_escape, url_component}
 use Rattle.percent_encoding.specs.AsciiSet.{should_percent_encode}
 use Rattle.percent_encoding.specs.Percent.{percent_encode_byte, percent_encode}
 use Rattle.percent_encoding.proofs.PercentLemmas.{IsByte, percent_encode-nil, percent_encode_escaped, percent_encode_kept}

@@ -2,7 +2,7 @@
 use Rattle.std.proofs.Common.{◌≡◌, ℕ, Bool, true, false, ◌&&◌, nat_eq, List, [], ◌∷◌, ◌++◌, length, take, drop, refl, sym, ◌∙◌, ap}
 use Rattle.std.specs.Bool.{beq}
 use Rattle.std.specs.Cmp.Lexicographic.{pointwise}
-use Rattle.dh_syntax.specs.Numbers.{eq, bytes_eq}
+use Rattle.dh_syntax.specs.Expressions.Numbers.{eq, bytes_eq}
 use Rattle.dh_syntax.proofs.NativeTests.{bytes_eq-pointwise}
 use Rattle.dh_paths.specs.Origins.{scheme_text}
 

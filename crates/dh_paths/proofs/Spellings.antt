@@ -9,10 +9,10 @@ use Rattle.std.proofs.lemmas.List.Folds.{list_all-append}
 use Rattle.dh_syntax.specs.declared.locations.Loc.{Loc}
 use Rattle.dh_syntax.specs.declared.locations.Loc.TheVariants as locs
 use Rattle.dh_syntax.specs.declared.locations.Url.{Url}
-use Rattle.dh_syntax.specs.Arity.{has_some}
-use Rattle.dh_syntax.specs.Characters.{is_quoted_path_byte}
-use Rattle.dh_syntax.specs.Locations.{Comps, folder, file, is_dot, is_up, before_folder, canon_folder, canon_path, relative, canon, canon_url, joined_url, is_kept_in_url, percent_escape, url_component, joined, from_parent, chain}
-use Rattle.dh_syntax.specs.Spellable.{is_component, is_encoded, is_segment, is_host, query_spellable, url_spellable, location_spellable}
+use Rattle.dh_syntax.specs.Expressions.Arity.{has_some}
+use Rattle.dh_syntax.specs.Text.Characters.{is_quoted_path_byte}
+use Rattle.dh_syntax.specs.Imports.Locations.{Comps, folder, file, is_dot, is_up, before_folder, canon_folder, canon_path, relative, canon, canon_url, joined_url, is_kept_in_url, percent_escape, url_component, joined, from_parent, chain}
+use Rattle.dh_syntax.specs.Expressions.Spellable.{is_component, is_encoded, is_segment, is_host, query_spellable, url_spellable, location_spellable}
 use Rattle.dh_syntax.proofs.Numbers.{and-true_left, and-true_right}
 use Rattle.dh_paths.proofs.Escaping.{kept_more, escaped_more}
 use Rattle.dh_paths.specs.LocationLaws.{parent_spellable}

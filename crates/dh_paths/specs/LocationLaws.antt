@@ -1,9 +1,9 @@
 -- Laws of locations.
 use Rattle.std.specs.Prelude.{◌≡◌, Bool, true, Option, Some, None, IsTrue}
 use Rattle.dh_syntax.specs.declared.locations.Loc.{Loc}
-use Rattle.dh_syntax.specs.Arity.{loc_fits}
-use Rattle.dh_syntax.specs.Locations.{canon, chain}
-use Rattle.dh_syntax.specs.Spellable.{location_spellable}
+use Rattle.dh_syntax.specs.Expressions.Arity.{loc_fits}
+use Rattle.dh_syntax.specs.Imports.Locations.{canon, chain}
+use Rattle.dh_syntax.specs.Expressions.Spellable.{location_spellable}
 
 -- a canonical location is its own canonical location
 abbrev pub CanonicalTwice : Type 0

@@ -1,6 +1,6 @@
 -- What the functions on paths tell one another.
 use Rattle.std.specs.Prelude.{Bool, true, false, [], ◌∷◌, codes}
-use Rattle.dh_syntax.specs.Locations.{Comps, is_up}
+use Rattle.dh_syntax.specs.Imports.Locations.{Comps, is_up}
 
 -- whether the folder of a path begins with `..`
 abbrev pub goes_up : Comps → Bool

@@ -1,6 +1,6 @@
 ghost use Rattle.std.specs.Prelude.{◌≡◌, ◌++◌, map, IfOk, OnOk};
 ghost use Rattle.std.specs.Option.{option_copied};
-ghost use Rattle.dh_syntax.specs.Locations as spec;
+ghost use Rattle.dh_syntax.specs.Imports.Locations as spec;
 ghost use Rattle.dh_paths.specs.Paths.{route};
 
 use crate::canonical::canon;

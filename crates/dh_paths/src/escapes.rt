@@ -1,5 +1,5 @@
 ghost use Rattle.std.specs.Prelude.{◌≡◌, ◌++◌, IfOk, OnOk, string_bytes};
-ghost use Rattle.dh_syntax.specs.Locations as spec;
+ghost use Rattle.dh_syntax.specs.Imports.Locations as spec;
 
 use dh_syntax::Piece;
 use percent_encoding::{AsciiSet, NON_ALPHANUMERIC, ascii_set, percent_encode};

@@ -2,8 +2,8 @@ ghost use Rattle.std.specs.Prelude.{◌≡◌, ◌==◌, ◌&&◌, ◌||◌, ◌
 ghost use Rattle.std.specs.Char.{is_ascii_alphanumeric};
 ghost use Rattle.std.specs.List.{list_all};
 ghost use Rattle.dh_syntax.specs.declared.locations.Loc.TheVariants.{Env};
-ghost use Rattle.dh_syntax.specs.Arity.{has_some};
-ghost use Rattle.dh_syntax.specs.Locations as spec;
+ghost use Rattle.dh_syntax.specs.Expressions.Arity.{has_some};
+ghost use Rattle.dh_syntax.specs.Imports.Locations as spec;
 
 use dh_syntax::{Comps, Loc, Piece, Url};
 use std::alloc::{AllocError, Global};

@@ -8,12 +8,12 @@ use Rattle.std.proofs.Math.Dec.{eqb-suc-zero}
 use Rattle.std.proofs.lemmas.Bool.{false≢true, eq-eqb, eqb-true}
 use Rattle.dh_syntax.specs.declared.expressions.Alt.{Alt}
 use Rattle.dh_syntax.specs.declared.expressions.Kid.{Kid}
-use Rattle.dh_syntax.specs.Tree.{Tree, Row, end, kid}
-use Rattle.dh_syntax.specs.Rows.{◌+++◌, row_length}
-use Rattle.dh_syntax.specs.Numbers.{eq}
+use Rattle.dh_syntax.specs.Expressions.Tree.{Tree, Row, end, kid}
+use Rattle.dh_syntax.specs.Expressions.Rows.{◌+++◌, row_length}
+use Rattle.dh_syntax.specs.Expressions.Numbers.{eq}
 use Rattle.dh_syntax.proofs.NativeTests.{eq-native}
-use Rattle.dh_syntax.specs.Arity.{plain, binding, some_plain, alt_labels, typed_count}
-use Rattle.dh_syntax.specs.Bridge.{term, row_of}
+use Rattle.dh_syntax.specs.Expressions.Arity.{plain, binding, some_plain, alt_labels, typed_count}
+use Rattle.dh_syntax.specs.Expressions.Bridge.{term, row_of}
 use Rattle.dh_syntax.proofs.Bridge.{row_of-nil, row_of-cons}
 use Rattle.dh_syntax.proofs.Rows.{row_length-row_of, row_of-push}
 

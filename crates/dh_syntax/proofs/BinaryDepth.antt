@@ -10,16 +10,16 @@ use Rattle.dh_syntax.specs.declared.locations.Import.{Import}
 use Rattle.dh_syntax.specs.declared.locations.Loc.{Loc}
 use Rattle.dh_syntax.specs.declared.locations.Url.{Url}
 use Rattle.dh_syntax.specs.declared.operators.Builtin.TheVariants as builtin
-use Rattle.dh_syntax.specs.BinaryItems.{Item, single, array_of, map_of, tagged, Items, no_items, more_items, Pairs, no_pairs, more_pairs}
-use Rattle.dh_syntax.specs.BinaryLeaves
-use Rattle.dh_syntax.specs.BinaryLeaves.{◌>>=◌, is_null, characters_of, octets_of, unsigned_of, spelled, label_of, named_label, labels_of, path_of, inserted, natural_of, integer_of}
-use Rattle.dh_syntax.specs.BinaryRead
-use Rattle.dh_syntax.specs.BinaryRead.{Value, nothing, holds, Entry, Part, terms, plain_row, node, node_of, applied, row}
-use Rattle.dh_syntax.specs.Nesting.{nesting, parts_nesting}
-use Rattle.dh_syntax.specs.Numbers.{bytes_eq}
-use Rattle.dh_syntax.specs.Order.{before}
-use Rattle.dh_syntax.specs.Spellable.{is_component, is_segment, is_query, is_host}
-use Rattle.dh_syntax.specs.Tree.{Node, end, kid, Name, Term}
+use Rattle.dh_syntax.specs.Bytes.BinaryItems.{Item, single, array_of, map_of, tagged, Items, no_items, more_items, Pairs, no_pairs, more_pairs}
+use Rattle.dh_syntax.specs.Bytes.BinaryLeaves
+use Rattle.dh_syntax.specs.Bytes.BinaryLeaves.{◌>>=◌, is_null, characters_of, octets_of, unsigned_of, spelled, label_of, named_label, labels_of, path_of, inserted, natural_of, integer_of}
+use Rattle.dh_syntax.specs.Bytes.BinaryRead
+use Rattle.dh_syntax.specs.Bytes.BinaryRead.{Value, nothing, holds, Entry, Part, terms, plain_row, node, node_of, applied, row}
+use Rattle.dh_syntax.specs.Expressions.Nesting.{nesting, parts_nesting}
+use Rattle.dh_syntax.specs.Expressions.Numbers.{bytes_eq}
+use Rattle.dh_syntax.specs.Expressions.Order.{before}
+use Rattle.dh_syntax.specs.Expressions.Spellable.{is_component, is_segment, is_query, is_host}
+use Rattle.dh_syntax.specs.Expressions.Tree.{Node, end, kid, Name, Term}
 
 abbrev mutual
   pub depth : Item → ℕ

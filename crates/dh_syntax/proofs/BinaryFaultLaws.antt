@@ -5,14 +5,14 @@ use Rattle.std.proofs.lemmas.Bool.{le-leb, leb-true}
 use Rattle.std.proofs.lemmas.List.{append_assoc, append-nil}
 use Rattle.dh_syntax.specs.declared.faults.DecodeFault.{DecodeFault}
 use Rattle.dh_syntax.specs.declared.faults.DecodeFault.TheVariants as fault
-use Rattle.dh_syntax.specs.Arity.{has_some}
-use Rattle.dh_syntax.specs.BinaryFaults.{most_open, CanGoOn, BeginsNone, offset, Reached, HeadFails, IsNumber, Whole, NestsTooDeep, DecodesTo}
-use Rattle.dh_syntax.specs.BinaryHeads.{HeadFault, cut, indefinite, float, foreign_tag, too_wide, Mark, Marked, atom, tag, unsigned, octets, Begun, begun, begun_by, before_begun, mark_at}
-use Rattle.dh_syntax.specs.BinaryItems.{Item, item_marks, at_start, after_marks, open_at, opens_at_most}
-use Rattle.dh_syntax.specs.BinaryRead.{expression, Begins, Reads}
-use Rattle.dh_syntax.specs.Nesting.{nesting}
-use Rattle.dh_syntax.specs.Spellable.{most_nesting}
-use Rattle.dh_syntax.specs.Tree.{Term}
+use Rattle.dh_syntax.specs.Expressions.Arity.{has_some}
+use Rattle.dh_syntax.specs.Bytes.BinaryFaults.{most_open, CanGoOn, BeginsNone, offset, Reached, HeadFails, IsNumber, Whole, NestsTooDeep, DecodesTo}
+use Rattle.dh_syntax.specs.Bytes.BinaryHeads.{HeadFault, cut, indefinite, float, foreign_tag, too_wide, Mark, Marked, atom, tag, unsigned, octets, Begun, begun, begun_by, before_begun, mark_at}
+use Rattle.dh_syntax.specs.Bytes.BinaryItems.{Item, item_marks, at_start, after_marks, open_at, opens_at_most}
+use Rattle.dh_syntax.specs.Bytes.BinaryRead.{expression, Begins, Reads}
+use Rattle.dh_syntax.specs.Expressions.Nesting.{nesting}
+use Rattle.dh_syntax.specs.Expressions.Spellable.{most_nesting}
+use Rattle.dh_syntax.specs.Expressions.Tree.{Term}
 use Rattle.dh_syntax.proofs.BinaryDepth.{expression-depth}
 use Rattle.dh_syntax.proofs.BinaryOpen.{after-whole, opens-whole, opens-next}
 use Rattle.dh_syntax.proofs.BinaryReadLaws.{same_item, item_marks-one_to_one, goes_on_before, marks_in, after_in}

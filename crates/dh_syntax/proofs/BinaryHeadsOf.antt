@@ -2,8 +2,8 @@
 use Rattle.std.specs.Prelude.{◌≡◌, ℕ, suc, List, [], ◌∷◌, ◌++◌, refl}
 use Rattle.std.proofs.Common.{sym, ◌∙◌, ap}
 use Rattle.std.proofs.lemmas.List.{append_assoc, append-nil}
-use Rattle.dh_syntax.specs.BinaryHeads.{Atom, Mark, atom, array, map, tag}
-use Rattle.dh_syntax.specs.BinaryItems.{Item, single, array_of, map_of, tagged, Items, no_items, more_items, Pairs, no_pairs, more_pairs, item_count, pair_count, item_marks, items_marks, pairs_marks}
+use Rattle.dh_syntax.specs.Bytes.BinaryHeads.{Atom, Mark, atom, array, map, tag}
+use Rattle.dh_syntax.specs.Bytes.BinaryItems.{Item, single, array_of, map_of, tagged, Items, no_items, more_items, Pairs, no_pairs, more_pairs, item_count, pair_count, item_marks, items_marks, pairs_marks}
 
 pub first_atom : (a : Atom) (i : Item) (r ms : List Mark) → item_marks i ++ r ≡ atom a ∷ ms → (i ≡ single a) × (r ≡ ms)
 first_atom a (single c) r ms h = (cc, cc)

@@ -3,8 +3,8 @@ use Rattle.std.specs.Prelude.{◌≡◌, ℕ, suc, ◌+◌, ◌*◌, ◌≤◌, 
 use Rattle.std.proofs.Common.{sym, ◌∙◌, ap, arith}
 use Rattle.std.proofs.lemmas.Bool.{le-leb, leb-true}
 use Rattle.std.proofs.lemmas.List.{append_assoc, append-nil}
-use Rattle.dh_syntax.specs.BinaryHeads.{Mark}
-use Rattle.dh_syntax.specs.BinaryItems.{Item, single, array_of, map_of, tagged, Items, no_items, more_items, Pairs, no_pairs, more_pairs, item_count, pair_count, item_marks, items_marks, pairs_marks, Open, closed, after_mark, after_marks, open_at, opens_at_most, at_start}
+use Rattle.dh_syntax.specs.Bytes.BinaryHeads.{Mark}
+use Rattle.dh_syntax.specs.Bytes.BinaryItems.{Item, single, array_of, map_of, tagged, Items, no_items, more_items, Pairs, no_pairs, more_pairs, item_count, pair_count, item_marks, items_marks, pairs_marks, Open, closed, after_mark, after_marks, open_at, opens_at_most, at_start}
 use Rattle.dh_syntax.proofs.BinaryDepth.{depth, depths, pairs_depth}
 
 -- a test that is passed

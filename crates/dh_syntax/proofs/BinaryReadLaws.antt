@@ -2,11 +2,11 @@
 use Rattle.std.specs.Prelude.{◌≡◌, ℕ, zero, suc, Bool, false, List, [], ◌∷◌, ◌++◌, length, Some, Result, Ok, Err, refl}
 use Rattle.std.proofs.Common.{sym, ◌∙◌, ap, subst}
 use Rattle.std.proofs.lemmas.List.{append_assoc, append-nil}
-use Rattle.dh_syntax.specs.BinaryFaults.{CanGoOn}
-use Rattle.dh_syntax.specs.BinaryHeads.{HeadFault, Mark, Marked, Begun, begun, begun_by, before_begun, mark_at}
-use Rattle.dh_syntax.specs.BinaryItems.{Item, single, array_of, map_of, tagged, Items, no_items, more_items, Pairs, no_pairs, more_pairs, item_count, pair_count, item_marks, items_marks, pairs_marks}
-use Rattle.dh_syntax.specs.BinaryRead.{expression, Reads}
-use Rattle.dh_syntax.specs.Tree.{Term}
+use Rattle.dh_syntax.specs.Bytes.BinaryFaults.{CanGoOn}
+use Rattle.dh_syntax.specs.Bytes.BinaryHeads.{HeadFault, Mark, Marked, Begun, begun, begun_by, before_begun, mark_at}
+use Rattle.dh_syntax.specs.Bytes.BinaryItems.{Item, single, array_of, map_of, tagged, Items, no_items, more_items, Pairs, no_pairs, more_pairs, item_count, pair_count, item_marks, items_marks, pairs_marks}
+use Rattle.dh_syntax.specs.Bytes.BinaryRead.{expression, Reads}
+use Rattle.dh_syntax.specs.Expressions.Tree.{Term}
 use Rattle.dh_syntax.proofs.BinaryHeadsOf.{first_atom, first_array, first_map, first_tag}
 
 -- ---- heads of one item

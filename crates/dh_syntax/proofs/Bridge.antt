@@ -11,9 +11,9 @@ use Rattle.dh_syntax.specs.declared.expressions.Expr.TheViews.{roll-Expr}
 use denote.Hole.Holds.{Such}
 use Rattle.dh_syntax.specs.declared.expressions.Kid.{Kid}
 use Rattle.dh_syntax.specs.declared.expressions.Op.{Op}
-use Rattle.dh_syntax.specs.Tree as tree
-use Rattle.dh_syntax.specs.Tree.{Row, Leaf, end, kid, Name, Term}
-use Rattle.dh_syntax.specs.Bridge.{Part, row, expr_step, kid_step, term, row_of}
+use Rattle.dh_syntax.specs.Expressions.Tree as tree
+use Rattle.dh_syntax.specs.Expressions.Tree.{Row, Leaf, end, kid, Name, Term}
+use Rattle.dh_syntax.specs.Expressions.Bridge.{Part, row, expr_step, kid_step, term, row_of}
 
 -- The parts of a node.
 pub row_of-nil : row_of [] ≡ end

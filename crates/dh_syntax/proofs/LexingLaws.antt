@@ -1,10 +1,10 @@
 -- Laws of lexing for a reader that goes from place to place: bytes that are read already may be dropped.
 use Rattle.std.specs.Prelude.{◌≡◌, ℕ, zero, suc, ◌+◌, ◌≤◌, Bool, List, [], ◌∷◌, Option, length, drop, refl}
 use Rattle.std.proofs.Common.{◌∙◌, ap, arith}
-use Rattle.dh_syntax.specs.LexGaps.{Comment, ClosedAfter, FaultyAfter, NotClosed, one_further, comment}
-use Rattle.dh_syntax.specs.LexLocations.{Component, Components, a_byte_more, components, more_labels, url_chars_len}
-use Rattle.dh_syntax.specs.Lexing.{State, start, tokens_from, lex}
-use Rattle.dh_syntax.specs.Stretches.{Character, Stretch, UpTo, FaultAt, further, stretch}
+use Rattle.dh_syntax.specs.Text.LexGaps.{Comment, ClosedAfter, FaultyAfter, NotClosed, one_further, comment}
+use Rattle.dh_syntax.specs.Text.LexLocations.{Component, Components, a_byte_more, components, more_labels, url_chars_len}
+use Rattle.dh_syntax.specs.Text.Lexing.{State, start, tokens_from, lex}
+use Rattle.dh_syntax.specs.Text.Stretches.{Character, Stretch, UpTo, FaultAt, further, stretch}
 
 -- the lexer starts outside every text
 pub lex-from_start : (bs : List ℕ) → lex bs ≡ tokens_from start 0 0 bs

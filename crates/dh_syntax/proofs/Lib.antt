@@ -1,8 +1,6 @@
 pub mod AlphaEquations
 pub mod Arity
 pub mod BinaryDepth
-pub mod BinaryDepthExamples
-pub mod BinaryFaultExamples
 pub mod BinaryFaultLaws
 pub mod BinaryHeadsOf
 pub mod BinaryOpen

@@ -3,8 +3,8 @@ use Rattle.std.specs.Prelude.{◌≡◌, ℕ, zero, suc, Bool, true, false, not,
 use Rattle.std.proofs.Common.{sym, ◌∙◌, ap, subst}
 use Rattle.dh_syntax.specs.declared.locations.Loc.{Loc}
 use Rattle.dh_syntax.specs.declared.locations.Loc.TheVariants as locs
-use Rattle.dh_syntax.specs.Locations.{Comps, folder, file, is_dot, is_up, before_folder, canon_folder, canon_path, relative, canon, joined, url_component, from_parent, chain}
-use Rattle.dh_syntax.specs.Numbers.{eq, bytes_eq}
+use Rattle.dh_syntax.specs.Imports.Locations.{Comps, folder, file, is_dot, is_up, before_folder, canon_folder, canon_path, relative, canon, joined, url_component, from_parent, chain}
+use Rattle.dh_syntax.specs.Expressions.Numbers.{eq, bytes_eq}
 
 eq_true : (m n : ℕ) → eq m n ≡ true → m ≡ n
 eq_true zero zero h = refl

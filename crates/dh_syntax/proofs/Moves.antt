@@ -1,9 +1,9 @@
 -- What every move keeps, and when two moves are one.
 use Rattle.std.specs.Prelude.{◌≡◌, Some, None, refl}
 use Rattle.std.proofs.Common.{ap}
-use Rattle.dh_syntax.specs.Moves.{Move, moved, moved_row, entered}
-use Rattle.dh_syntax.specs.Nesting.{nesting, parts_nesting}
-use Rattle.dh_syntax.specs.Tree.{Tree, Row, Leaf, Node, end, kid}
+use Rattle.dh_syntax.specs.Names.Moves.{Move, moved, moved_row, entered}
+use Rattle.dh_syntax.specs.Expressions.Nesting.{nesting, parts_nesting}
+use Rattle.dh_syntax.specs.Expressions.Tree.{Tree, Row, Leaf, Node, end, kid}
 
 mutual
   pub nesting-moved : {S A B C D : Type 0} (m : Move S A B C D) (s : S) (e : Tree A B) → nesting (moved m s e) ≡ nesting e

@@ -4,7 +4,7 @@ use Rattle.std.specs.Cmp.Lexicographic.{pointwise}
 use Rattle.std.proofs.Common.{sym, ◌∙◌, ap, arith, Decides}
 use Rattle.std.proofs.lemmas.Bool.{false≢true, leb-true, le-leb}
 use Rattle.std.proofs.lemmas.Bool.Decides.{same_from_decides, Decides-ltb, Decides-eqb}
-use Rattle.dh_syntax.specs.Numbers.{eq, le, lt, bytes_eq}
+use Rattle.dh_syntax.specs.Expressions.Numbers.{eq, le, lt, bytes_eq}
 use Rattle.dh_syntax.proofs.Numbers.{eq-itself, eq-true, bytes_eq-itself, bytes_eq-true}
 
 pub Decides-eq : (m n : ℕ) → Decides (eq m n) (m ≡ n)

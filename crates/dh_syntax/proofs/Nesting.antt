@@ -2,8 +2,8 @@
 use Rattle.std.specs.Prelude.{◌≡◌, ℕ, suc, ◌+◌, min, max, ◌<◌, ◌≤◌, List, length, drop}
 use Rattle.std.proofs.Common.{◌∙◌, ap, sym, arith, get_or}
 use Rattle.dh_syntax.specs.declared.expressions.Kid.{Kid}
-use Rattle.dh_syntax.specs.Nesting.{nesting, parts_nesting}
-use Rattle.dh_syntax.specs.Bridge.{term, row_of}
+use Rattle.dh_syntax.specs.Expressions.Nesting.{nesting, parts_nesting}
+use Rattle.dh_syntax.specs.Expressions.Bridge.{term, row_of}
 use Rattle.dh_syntax.proofs.Rows.{row_of-drop_item, row_of-drop_all}
 
 -- the greatest so far and the rest, up to a limit

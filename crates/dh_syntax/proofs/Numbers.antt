@@ -1,7 +1,7 @@
 -- Laws of the tests on numbers and texts.
 use Rattle.std.specs.Prelude.{◌≡◌, ℕ, zero, suc, Bool, true, false, ◌&&◌, List, [], ◌∷◌, refl}
 use Rattle.std.proofs.Common.{ap}
-use Rattle.dh_syntax.specs.Numbers.{eq, le, pred, bytes_eq}
+use Rattle.dh_syntax.specs.Expressions.Numbers.{eq, le, pred, bytes_eq}
 
 pub and-true_left : (a b : Bool) → (a && b) ≡ true → a ≡ true
 and-true_left true b h = refl

@@ -9,8 +9,8 @@ use Rattle.std.proofs.lemmas.Bool.{false≢true}
 use Rattle.std.proofs.lemmas.Map.Lookups.{exact_bytes}
 use Rattle.std.proofs.Common.{sym, ◌∙◌, ap, arith, add-one, cond, get_or}
 use Rattle.std.proofs.Math.Bool.{and-false}
-use Rattle.dh_syntax.specs.Numbers.{eq, lt}
-use Rattle.dh_syntax.specs.Order.{before, ascending}
+use Rattle.dh_syntax.specs.Expressions.Numbers.{eq, lt}
+use Rattle.dh_syntax.specs.Expressions.Order.{before, ascending}
 use Rattle.dh_syntax.proofs.NativeTests.{eq-native, lt-native}
 
 first_decides : (p q : Bool) (o : Ordering) → p || (q && is_lt o) ≡ is_lt (ordering_then (cond p Less (cond q Equal Greater)) o)

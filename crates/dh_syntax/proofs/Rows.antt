@@ -4,9 +4,9 @@ use Rattle.std.proofs.Common.{sym, ◌∙◌, ap, get_or, arith}
 use Rattle.std.proofs.lemmas.List.{drop_more, drop_all}
 use Rattle.std.proofs.lemmas.Option.{slice_get_within, get_or_from_slice_get}
 use Rattle.dh_syntax.specs.declared.expressions.Kid.{Kid}
-use Rattle.dh_syntax.specs.Tree.{Row, end, kid, Var, Name, Term}
-use Rattle.dh_syntax.specs.Rows.{◌+++◌, row_length}
-use Rattle.dh_syntax.specs.Bridge.{term, row_of}
+use Rattle.dh_syntax.specs.Expressions.Tree.{Row, end, kid, Var, Name, Term}
+use Rattle.dh_syntax.specs.Expressions.Rows.{◌+++◌, row_length}
+use Rattle.dh_syntax.specs.Expressions.Bridge.{term, row_of}
 use Rattle.dh_syntax.proofs.Bridge.{row_of-nil, row_of-cons}
 
 -- Rows.

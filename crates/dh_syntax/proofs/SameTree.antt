@@ -17,9 +17,9 @@ use Rattle.dh_syntax.specs.declared.operators.BinOp.{BinOp}
 use Rattle.dh_syntax.specs.declared.operators.BinOp.TheVariants as bins
 use Rattle.dh_syntax.specs.declared.operators.Builtin.{Builtin}
 use Rattle.dh_syntax.specs.declared.operators.Builtin.TheVariants as builtins
-use Rattle.dh_syntax.specs.Numbers.{eq, bytes_eq}
-use Rattle.dh_syntax.specs.SameTree.{bool_eq, list_eq, option_eq, digest_eq, mode_eq, url_eq, loc_eq, import_eq, alt_eq, bin_eq, builtin_eq, op_eq, var_eq, term_eq, row_eq}
-use Rattle.dh_syntax.specs.Tree.{Row, Leaf, Node, end, kid, Name, Var, Term}
+use Rattle.dh_syntax.specs.Expressions.Numbers.{eq, bytes_eq}
+use Rattle.dh_syntax.specs.Expressions.SameTree.{bool_eq, list_eq, option_eq, digest_eq, mode_eq, url_eq, loc_eq, import_eq, alt_eq, bin_eq, builtin_eq, op_eq, var_eq, term_eq, row_eq}
+use Rattle.dh_syntax.specs.Expressions.Tree.{Row, Leaf, Node, end, kid, Name, Var, Term}
 use Rattle.dh_syntax.proofs.Numbers.{and-true_left, and-true_right, eq-itself, eq-true, bytes_eq-itself, bytes_eq-true}
 
 -- A test that is true of each thing with itself, and of equal things only.

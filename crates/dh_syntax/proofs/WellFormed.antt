@@ -4,9 +4,9 @@ use Rattle.std.proofs.Common.{sym, subst, get_or}
 use Rattle.dh_syntax.specs.declared.expressions.Expr.TheVariants as expr
 use Rattle.dh_syntax.specs.declared.expressions.Kid.{Kid}
 use Rattle.dh_syntax.specs.declared.expressions.Op.{Op}
-use Rattle.dh_syntax.specs.Tree.{Name}
-use Rattle.dh_syntax.specs.Arity.{fits, IsWellFormed, AreWellFormed}
-use Rattle.dh_syntax.specs.Bridge.{term, row_of}
+use Rattle.dh_syntax.specs.Expressions.Tree.{Name}
+use Rattle.dh_syntax.specs.Expressions.Arity.{fits, IsWellFormed, AreWellFormed}
+use Rattle.dh_syntax.specs.Expressions.Bridge.{term, row_of}
 use Rattle.dh_syntax.proofs.Bridge.{term-Var, term-Node}
 use Rattle.dh_syntax.proofs.Rows.{row_of-drop_item, row_of-drop_all}
 

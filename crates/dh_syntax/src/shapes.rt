@@ -1,9 +1,9 @@
 ghost use Rattle.std.specs.Prelude.{◌≡◌, ◌↔◌, ◌-◌, ◌^◌, ◌&&◌, IsTrue, length, min, is_none, count_by};
 ghost use Rattle.std.specs.List.{list_all};
-ghost use Rattle.dh_syntax.specs.Bridge.{term, row_of};
-ghost use Rattle.dh_syntax.specs.Arity.{plain, binding, some_plain, between, alt_labels, typed_count, fits, loc_fits, IsWellFormed, AreWellFormed};
-ghost use Rattle.dh_syntax.specs.Nesting.{nesting, parts_nesting};
-ghost use Rattle.dh_syntax.specs.Order.{before, ascending};
+ghost use Rattle.dh_syntax.specs.Expressions.Bridge.{term, row_of};
+ghost use Rattle.dh_syntax.specs.Expressions.Arity.{plain, binding, some_plain, between, alt_labels, typed_count, fits, loc_fits, IsWellFormed, AreWellFormed};
+ghost use Rattle.dh_syntax.specs.Expressions.Nesting.{nesting, parts_nesting};
+ghost use Rattle.dh_syntax.specs.Expressions.Order.{before, ascending};
 
 use crate::expressions::{Alt, Expr, Kid, Kids, Labels, Op, Pieces};
 use crate::locations::Loc;

@@ -1,5 +1,5 @@
 ghost use Rattle.std.specs.Prelude.{◌≡◌};
-ghost use Rattle.dh_syntax.specs.Statuses.{code_of};
+ghost use Rattle.dh_syntax.specs.Command.Statuses.{code_of};
 
 /// How a run of the command ended.
 #[derive(Clone, Copy, Debug, PartialEq, Eq)]

@@ -5,10 +5,10 @@ use Rattle.dh_syntax.specs.declared.expressions.Expr.{Expr}
 use Rattle.dh_syntax.specs.declared.expressions.Expr.TheVariants as expr
 use Rattle.dh_syntax.specs.declared.expressions.Kid.{Kid}
 use Rattle.dh_syntax.specs.declared.expressions.Op.{Op}
-use Rattle.dh_syntax.specs.Bridge.{term, row_of}
-use Rattle.dh_syntax.specs.Indices.{IndicesBelow, RowIndicesBelow}
-use Rattle.dh_syntax.specs.Nesting.{nesting, parts_nesting}
-use Rattle.dh_syntax.specs.Tree.{Row, Leaf, Node, end, kid, Name, Var, Term}
+use Rattle.dh_syntax.specs.Expressions.Bridge.{term, row_of}
+use Rattle.dh_syntax.specs.Names.Indices.{IndicesBelow, RowIndicesBelow}
+use Rattle.dh_syntax.specs.Expressions.Nesting.{nesting, parts_nesting}
+use Rattle.dh_syntax.specs.Expressions.Tree.{Row, Leaf, Node, end, kid, Name, Var, Term}
 use Rattle.dh_syntax.proofs.Bridge.{term-Var, term-Node}
 use Rattle.dh_syntax.proofs.Rows.{row_of-drop_item, row_of-drop_all}
 

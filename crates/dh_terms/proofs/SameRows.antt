@@ -6,10 +6,10 @@ use Rattle.dh_syntax.specs.declared.expressions.Expr.{Expr}
 use Rattle.dh_syntax.specs.declared.expressions.Expr.TheVariants as expr
 use Rattle.dh_syntax.specs.declared.expressions.Kid.{Kid}
 use Rattle.dh_syntax.specs.declared.expressions.Op.{Op}
-use Rattle.dh_syntax.specs.Bridge.{term, row_of}
-use Rattle.dh_syntax.specs.Numbers.{eq, bytes_eq}
-use Rattle.dh_syntax.specs.SameTree.{option_eq, op_eq, term_eq, row_eq}
-use Rattle.dh_syntax.specs.Tree.{Leaf, Node, end, kid, Name}
+use Rattle.dh_syntax.specs.Expressions.Bridge.{term, row_of}
+use Rattle.dh_syntax.specs.Expressions.Numbers.{eq, bytes_eq}
+use Rattle.dh_syntax.specs.Expressions.SameTree.{option_eq, op_eq, term_eq, row_eq}
+use Rattle.dh_syntax.specs.Expressions.Tree.{Leaf, Node, end, kid, Name}
 use Rattle.dh_syntax.proofs.Bridge.{term-Var, term-Node}
 use Rattle.dh_syntax.proofs.Rows.{row_of-drop_item, row_of-drop_all}
 

@@ -3,11 +3,11 @@ use Rattle.std.specs.Prelude.{◌≡◌, ℕ, zero, suc, Bool, true, false, cond
 use Rattle.std.proofs.Common.{sym, ◌∙◌, ap}
 use Rattle.dh_syntax.specs.declared.expressions.Op.{Op}
 use Rattle.dh_syntax.specs.declared.expressions.Op.TheVariants as ops
-use Rattle.dh_syntax.specs.Arity.{plain, binding, some_plain, between, alt_labels, typed_count, loc_fits, has_some, fits, IsWellFormed, AreWellFormed}
-use Rattle.dh_syntax.specs.Moves.{Move, moved, moved_row, entered}
-use Rattle.dh_syntax.specs.Order.{ascending}
-use Rattle.dh_syntax.specs.Subst.{is_var, index_under, put_under, shifting, subst, subst_row}
-use Rattle.dh_syntax.specs.Tree.{Tree, Row, Leaf, Node, end, kid, Name, Var, Term}
+use Rattle.dh_syntax.specs.Expressions.Arity.{plain, binding, some_plain, between, alt_labels, typed_count, loc_fits, has_some, fits, IsWellFormed, AreWellFormed}
+use Rattle.dh_syntax.specs.Names.Moves.{Move, moved, moved_row, entered}
+use Rattle.dh_syntax.specs.Expressions.Order.{ascending}
+use Rattle.dh_syntax.specs.Names.Subst.{is_var, index_under, put_under, shifting, subst, subst_row}
+use Rattle.dh_syntax.specs.Expressions.Tree.{Tree, Row, Leaf, Node, end, kid, Name, Var, Term}
 
 -- which of the parts are under a binder
 abbrev pub shape : {A B : Type 0} → Row A B → List Bool

@@ -1,6 +1,6 @@
 -- The binders above a place in an expression.
 use Rattle.std.specs.Prelude.{List, [], ◌∷◌}
-use Rattle.dh_syntax.specs.Tree.{Name}
+use Rattle.dh_syntax.specs.Expressions.Tree.{Name}
 use Rattle.dh_terms.specs.declared.names.Outer.{Outer}
 use Rattle.dh_terms.specs.declared.names.Outer.TheOpen as level
 use Rattle.dh_terms.specs.declared.names.Outer.TheOpen.{Outer-F}

@@ -1,6 +1,6 @@
 ghost use Rattle.std.specs.Prelude.{◌≡◌};
-ghost use Rattle.dh_syntax.specs.Numbers.{bytes_eq};
-ghost use Rattle.dh_syntax.specs.SameTree.{list_eq, option_eq, alt_eq, url_eq, loc_eq, digest_eq, mode_eq, import_eq, builtin_eq, bin_eq, op_eq};
+ghost use Rattle.dh_syntax.specs.Expressions.Numbers.{bytes_eq};
+ghost use Rattle.dh_syntax.specs.Expressions.SameTree.{list_eq, option_eq, alt_eq, url_eq, loc_eq, digest_eq, mode_eq, import_eq, builtin_eq, bin_eq, op_eq};
 
 use crate::names::is_named;
 use dh_syntax::{Alt, BinOp, Builtin, Digest, Import, Label, Loc, Mode, Op, Piece, Url};

@@ -1,8 +1,8 @@
 ghost use Rattle.std.specs.Prelude.{◌≡◌, ◌↔◌, ◌<◌, ◌-◌, ◌^◌, min, false, IsTrue};
-ghost use Rattle.dh_syntax.specs.Bridge.{term, row_of};
-ghost use Rattle.dh_syntax.specs.Indices.{IndicesBelow, RowIndicesBelow};
-ghost use Rattle.dh_syntax.specs.Nesting.{nesting, parts_nesting};
-ghost use Rattle.dh_syntax.specs.Subst.{is_free};
+ghost use Rattle.dh_syntax.specs.Expressions.Bridge.{term, row_of};
+ghost use Rattle.dh_syntax.specs.Names.Indices.{IndicesBelow, RowIndicesBelow};
+ghost use Rattle.dh_syntax.specs.Expressions.Nesting.{nesting, parts_nesting};
+ghost use Rattle.dh_syntax.specs.Names.Subst.{is_free};
 
 use crate::frees::free;
 use dh_syntax::{Expr, Kids, Label};

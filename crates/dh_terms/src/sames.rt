@@ -1,11 +1,11 @@
 ghost use Rattle.std.specs.Prelude.{◌≡◌, ◌-◌, ◌^◌, ◌&&◌, IfOk};
 ghost use Rattle.std.specs.Bool.{Decides};
-ghost use Rattle.dh_syntax.specs.Alpha.{IsSame, same};
-ghost use Rattle.dh_syntax.specs.Bridge.{term, row_of};
-ghost use Rattle.dh_syntax.specs.Indices.{IndicesBelow};
-ghost use Rattle.dh_syntax.specs.Nesting.{nesting};
-ghost use Rattle.dh_syntax.specs.Numbers.{bytes_eq};
-ghost use Rattle.dh_syntax.specs.SameTree.{option_eq, term_eq, row_eq};
+ghost use Rattle.dh_syntax.specs.Names.Alpha.{IsSame, same};
+ghost use Rattle.dh_syntax.specs.Expressions.Bridge.{term, row_of};
+ghost use Rattle.dh_syntax.specs.Names.Indices.{IndicesBelow};
+ghost use Rattle.dh_syntax.specs.Expressions.Nesting.{nesting};
+ghost use Rattle.dh_syntax.specs.Expressions.Numbers.{bytes_eq};
+ghost use Rattle.dh_syntax.specs.Expressions.SameTree.{option_eq, term_eq, row_eq};
 
 use crate::alphas::alpha;
 use crate::equals::is_same_op;

@@ -1,7 +1,7 @@
 -- Laws of components.
 use Rattle.std.proofs.Common.{◌≡◌, ℕ, zero, suc, ◌+◌, ◌<◌, ◌≤◌, Bool, List, [], ◌∷◌, ◌++◌, length, drop, get_or, Option, Some, sym, ap, ◌∙◌, append_assoc, arith}
 use Rattle.std.proofs.lemmas.List.{drop_more, drop-drop}
-use Rattle.dh_syntax.specs.LexLocations.{Component, Components, a_component_more, by_component, by_url_char, components, url_char_len, url_chars_len}
+use Rattle.dh_syntax.specs.Text.LexLocations.{Component, Components, a_component_more, by_component, by_url_char, components, url_char_len, url_chars_len}
 use Rattle.dh_syntax.proofs.LexingLaws.{components-skip, more_bytes, url_chars_len-skip}
 use Rattle.dh_tokens.proofs.Runs.{byte_within}
 

@@ -8,8 +8,8 @@ use Rattle.std.specs.Char.{digit_value, is_ascii_hexdigit}
 use Rattle.std.specs.List.{list_all, prefix_len}
 use Rattle.hex.specs.declared.error.FromHexError.TheVariants.{OddLength, InvalidStringLength}
 use Rattle.hex.specs.Hex.{hex_digit_value, digit_or_error, value_at, ◌>>=◌, pair_value, decode_pairs, decode_sized}
-use Rattle.dh_syntax.specs.LexLocations.{hex_bytes, digest_of, digest_digits, after_sha256}
-use Rattle.dh_syntax.specs.LexForms.{Is, Faulty, Form, form}
+use Rattle.dh_syntax.specs.Text.LexLocations.{hex_bytes, digest_of, digest_digits, after_sha256}
+use Rattle.dh_syntax.specs.Text.LexForms.{Is, Faulty, Form, form}
 use Rattle.dh_syntax.specs.declared.locations.Digest.{Digest}
 use Rattle.dh_syntax.specs.declared.tokens.TokenKind.TheVariants as kinds
 

@@ -2,7 +2,7 @@
 use Rattle.std.proofs.Common.{◌≡◌, ℕ, zero, suc, ◌+◌, ◌<◌, Bool, true, false, cond, if◌then◌else◌, ltb, nat_lt, List, [], ◌∷◌, get_or, Option, Some, None, refl, sym, ap, ◌∙◌, arith}
 use Rattle.std.specs.List.{prefix_len}
 use Rattle.std.proofs.lemmas.Bool.Decides.{nat_tests}
-use Rattle.dh_syntax.specs.LexForms.{Found, Form, form, longer, longest}
+use Rattle.dh_syntax.specs.Text.LexForms.{Found, Form, form, longer, longest}
 use Rattle.dh_tokens.specs.Forms.{joined}
 
 -- a form of some bytes is there

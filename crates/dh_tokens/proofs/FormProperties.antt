@@ -1,6 +1,6 @@
 -- What holds of a form, where one is there.
 use Rattle.std.proofs.Common.{◌≡◌, ℕ, zero, suc, ◌<◌, Bool, true, false, if◌then◌else◌, ltb, List, [], ◌∷◌, ◌++◌, Option, Some, None, IfSome, refl, subst, arith}
-use Rattle.dh_syntax.specs.LexForms.{Found, Form, form, longer, longest}
+use Rattle.dh_syntax.specs.Text.LexForms.{Found, Form, form, longer, longest}
 
 -- a property of each form of a list
 abbrev pub Each : (Form → Type 0) → List (Option Form) → Type 0

@@ -6,19 +6,19 @@ use Rattle.dh_syntax.specs.declared.operators.BinOp.TheVariants as binary
 use Rattle.dh_syntax.specs.declared.tokens.Mark.TheVariants as marks
 use Rattle.dh_syntax.specs.declared.tokens.TextForm.TheVariants as forms
 use Rattle.dh_syntax.specs.declared.tokens.TokenKind.TheVariants as kinds
-use Rattle.dh_syntax.specs.Characters.{first, begins, is_sign}
-use Rattle.dh_syntax.specs.Lexing.{code_form, gap_forms, token_forms, forms_left_out}
-use Rattle.dh_syntax.specs.LexForms.{Found, White, Is, Faulty, LeftOut, Form, form, longer, longest}
-use Rattle.dh_syntax.specs.LexGaps.{Comment, ClosedAfter, FaultyAfter, NotClosed, white_space, line_comment, block_comment, comment, comment_form}
-use Rattle.dh_syntax.specs.LexLocations.{path}
-use Rattle.dh_syntax.specs.LexMarks.{mark, mark_form, brackets, separators, binders, operators, operators_twice}
-use Rattle.dh_syntax.specs.LexNames.{minus_infinity, name_len, quoted_name}
-use Rattle.dh_syntax.specs.LexNumbers.{integer, integer_found, signed_double, signed_time}
+use Rattle.dh_syntax.specs.Text.Characters.{first, begins, is_sign}
+use Rattle.dh_syntax.specs.Text.Lexing.{code_form, gap_forms, token_forms, forms_left_out}
+use Rattle.dh_syntax.specs.Text.LexForms.{Found, White, Is, Faulty, LeftOut, Form, form, longer, longest}
+use Rattle.dh_syntax.specs.Text.LexGaps.{Comment, ClosedAfter, FaultyAfter, NotClosed, white_space, line_comment, block_comment, comment, comment_form}
+use Rattle.dh_syntax.specs.Text.LexLocations.{path}
+use Rattle.dh_syntax.specs.Text.LexMarks.{mark, mark_form, brackets, separators, binders, operators, operators_twice}
+use Rattle.dh_syntax.specs.Text.LexNames.{minus_infinity, name_len, quoted_name}
+use Rattle.dh_syntax.specs.Text.LexNumbers.{integer, integer_found, signed_double, signed_time}
 use Rattle.dh_tokens.specs.Forms.{joined}
-use Rattle.dh_syntax.specs.LexTexts.{multi_line_opening}
+use Rattle.dh_syntax.specs.Text.LexTexts.{multi_line_opening}
 use Rattle.dh_tokens.specs.Fronts.{is_path_start, is_white}
 use Rattle.dh_tokens.specs.Numbers.{signed_form}
-use Rattle.dh_syntax.specs.Numerals.{integer_len, natural_len, read_integer}
+use Rattle.dh_syntax.specs.Text.Numerals.{integer_len, natural_len, read_integer}
 use Rattle.dh_tokens.proofs.FormLaws.{longest-cons, joined-none, joined_assoc}
 use Rattle.dh_tokens.proofs.FormProperties.{has-more, longest-has, when-has}
 use Rattle.dh_tokens.proofs.NumberForms.{signed_form-none}

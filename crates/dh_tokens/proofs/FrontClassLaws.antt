@@ -3,15 +3,15 @@ use Rattle.std.proofs.Common.{◌≡◌, ℕ, ◌<◌, true, false, not, ◌&&�
 use Rattle.std.proofs.lemmas.Bool.{and_parts, both_ways, not-true}
 use Rattle.std.proofs.lemmas.Bool.Decides.{nat_tests}
 use Rattle.std.specs.Char.{is_ascii_digit}
-use Rattle.dh_syntax.specs.Characters.{first, is_name_start}
-use Rattle.dh_syntax.specs.Lexing.{code_form}
-use Rattle.dh_syntax.specs.LexForms.{Form, longest}
-use Rattle.dh_syntax.specs.LexGaps.{white_space, line_comment, block_comment}
-use Rattle.dh_syntax.specs.LexLocations.{digest, environment, path, url}
-use Rattle.dh_syntax.specs.LexMarks.{mark}
-use Rattle.dh_syntax.specs.LexNames.{name, quoted_name, minus_infinity}
-use Rattle.dh_syntax.specs.LexNumbers.{natural, integer, double, signed_double, date, time, signed_time, binary, bytes_literal}
-use Rattle.dh_syntax.specs.LexTexts.{double_quoted_opening, multi_line_opening}
+use Rattle.dh_syntax.specs.Text.Characters.{first, is_name_start}
+use Rattle.dh_syntax.specs.Text.Lexing.{code_form}
+use Rattle.dh_syntax.specs.Text.LexForms.{Form, longest}
+use Rattle.dh_syntax.specs.Text.LexGaps.{white_space, line_comment, block_comment}
+use Rattle.dh_syntax.specs.Text.LexLocations.{digest, environment, path, url}
+use Rattle.dh_syntax.specs.Text.LexMarks.{mark}
+use Rattle.dh_syntax.specs.Text.LexNames.{name, quoted_name, minus_infinity}
+use Rattle.dh_syntax.specs.Text.LexNumbers.{natural, integer, double, signed_double, date, time, signed_time, binary, bytes_literal}
+use Rattle.dh_syntax.specs.Text.LexTexts.{double_quoted_opening, multi_line_opening}
 use Rattle.dh_tokens.specs.Fronts.{is_symbol}
 use Rattle.dh_tokens.specs.Numbers.{unsigned_form}
 use Rattle.dh_tokens.proofs.FormLaws.{joined-none}

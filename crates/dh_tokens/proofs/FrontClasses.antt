@@ -4,15 +4,15 @@ use Rattle.std.proofs.lemmas.Bool.{and_parts, and_left, both_ways, ne_eqb, not-t
 use Rattle.std.specs.Char.{is_ascii_digit, is_ascii_hexdigit}
 use Rattle.std.specs.List.{list_all, prefix_len, starts_with}
 use Rattle.dh_syntax.specs.declared.locations.Loc.TheVariants as locs
-use Rattle.dh_syntax.specs.Characters.{first, begins, is_name_byte, is_name_start, is_sign, is_bit}
-use Rattle.dh_syntax.specs.LexForms.{White, LeftOut, Form, form, longest}
-use Rattle.dh_syntax.specs.LexGaps.{white_space, line_comment, block_comment}
-use Rattle.dh_syntax.specs.LexLocations.{after_env, after_scheme, after_sha256, by_component, components, digest, environment, path, path_component, path_form, path_from, url}
-use Rattle.dh_syntax.specs.LexMarks.{Spelled, mark, mark_form, brackets, separators, binders, operators, operators_twice}
-use Rattle.dh_syntax.specs.LexNames.{name, named, name_len, quoted_name, minus_infinity}
-use Rattle.dh_syntax.specs.LexNumbers.{natural_found, integer_found, natural, integer, fractional, double, signed_double, date, time, signed_time, binary, bytes_literal, is_shaped}
-use Rattle.dh_syntax.specs.LexTexts.{double_quoted_opening, multi_line_opening}
-use Rattle.dh_syntax.specs.Numerals.{natural_len, integer_len, read_natural, read_integer}
+use Rattle.dh_syntax.specs.Text.Characters.{first, begins, is_name_byte, is_name_start, is_sign, is_bit}
+use Rattle.dh_syntax.specs.Text.LexForms.{White, LeftOut, Form, form, longest}
+use Rattle.dh_syntax.specs.Text.LexGaps.{white_space, line_comment, block_comment}
+use Rattle.dh_syntax.specs.Text.LexLocations.{after_env, after_scheme, after_sha256, by_component, components, digest, environment, path, path_component, path_form, path_from, url}
+use Rattle.dh_syntax.specs.Text.LexMarks.{Spelled, mark, mark_form, brackets, separators, binders, operators, operators_twice}
+use Rattle.dh_syntax.specs.Text.LexNames.{name, named, name_len, quoted_name, minus_infinity}
+use Rattle.dh_syntax.specs.Text.LexNumbers.{natural_found, integer_found, natural, integer, fractional, double, signed_double, date, time, signed_time, binary, bytes_literal, is_shaped}
+use Rattle.dh_syntax.specs.Text.LexTexts.{double_quoted_opening, multi_line_opening}
+use Rattle.dh_syntax.specs.Text.Numerals.{natural_len, integer_len, read_natural, read_integer}
 use Rattle.dh_tokens.specs.Fronts.{is_symbol}
 
 -- a byte that fails a test is none that passes it

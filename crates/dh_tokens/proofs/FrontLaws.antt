@@ -7,13 +7,13 @@ use Rattle.dh_syntax.specs.declared.tokens.TextForm.{TextForm}
 use Rattle.dh_syntax.specs.declared.tokens.TextForm.TheVariants.{DoubleQuoted, MultiLine}
 use Rattle.dh_syntax.specs.declared.tokens.TokenKind.{TokenKind}
 use Rattle.dh_syntax.specs.declared.tokens.TokenKind.TheVariants as kinds
-use Rattle.dh_syntax.specs.Characters.{first, begins, line_end_len, is_noncharacter, code_at}
-use Rattle.dh_syntax.specs.Lexing.{Before, Start, AName, NameAt, Other, Place, Outside, Interpolated, Among, gap_forms, token_forms, forms_left_out, code_form, no_form, form_or, form_at}
-use Rattle.dh_syntax.specs.LexForms.{Found, White, SkippedLine, Is, LeftOut, TooWide, Faulty, Unclosed, Form, form, stretching}
-use Rattle.dh_syntax.specs.LexGaps.{Comment, ClosedAfter, FaultyAfter, NotClosed, block_comment, comment, comment_form, line_character, line_comment, skipped_line, with_line_end}
-use Rattle.dh_syntax.specs.LexLocations.{after_sha256, digest, digest_digits, digest_of}
-use Rattle.dh_syntax.specs.LexTexts.{closing_len, double_quoted_opening, multi_line_opening, piece_character, text_part}
-use Rattle.dh_syntax.specs.Stretches.{Stretch, UpTo, FaultAt, stretch}
+use Rattle.dh_syntax.specs.Text.Characters.{first, begins, line_end_len, is_noncharacter, code_at}
+use Rattle.dh_syntax.specs.Text.Lexing.{Before, Start, AName, NameAt, Other, Place, Outside, Interpolated, Among, gap_forms, token_forms, forms_left_out, code_form, no_form, form_or, form_at}
+use Rattle.dh_syntax.specs.Text.LexForms.{Found, White, SkippedLine, Is, LeftOut, TooWide, Faulty, Unclosed, Form, form, stretching}
+use Rattle.dh_syntax.specs.Text.LexGaps.{Comment, ClosedAfter, FaultyAfter, NotClosed, block_comment, comment, comment_form, line_character, line_comment, skipped_line, with_line_end}
+use Rattle.dh_syntax.specs.Text.LexLocations.{after_sha256, digest, digest_digits, digest_of}
+use Rattle.dh_syntax.specs.Text.LexTexts.{closing_len, double_quoted_opening, multi_line_opening, piece_character, text_part}
+use Rattle.dh_syntax.specs.Text.Stretches.{Stretch, UpTo, FaultAt, stretch}
 use Rattle.dh_tokens.specs.Forms.{HasFaultWithin, IsSound}
 use Rattle.dh_tokens.proofs.FormProperties.{Each, Each-append, form-has, when-has, if-has, longest-has, has-at, has-more}
 use Rattle.dh_tokens.proofs.PlainForms

@@ -6,10 +6,10 @@ use Rattle.dh_syntax.specs.declared.locations.Loc.{Loc}
 use Rattle.dh_syntax.specs.declared.locations.Loc.TheVariants as locs
 use Rattle.dh_syntax.specs.declared.locations.Url.{Url}
 use Rattle.dh_syntax.specs.declared.tokens.TokenKind.TheVariants as kinds
-use Rattle.dh_syntax.specs.Characters.{first, begins, is_environment_byte, is_environment_start, is_quoted_environment_byte}
-use Rattle.dh_syntax.specs.LexForms.{Is, LeftOut, Form, form, longest}
-use Rattle.dh_syntax.specs.LexLocations.{after_env, after_scheme, after_sha256, components, digest, host_len, one_or_more, query_len, query_of, segment, url_form, environment, plain_environment, quoted_environment, url}
-use Rattle.dh_syntax.specs.LexNames.{name}
+use Rattle.dh_syntax.specs.Text.Characters.{first, begins, is_environment_byte, is_environment_start, is_quoted_environment_byte}
+use Rattle.dh_syntax.specs.Text.LexForms.{Is, LeftOut, Form, form, longest}
+use Rattle.dh_syntax.specs.Text.LexLocations.{after_env, after_scheme, after_sha256, components, digest, host_len, one_or_more, query_len, query_of, segment, url_form, environment, plain_environment, quoted_environment, url}
+use Rattle.dh_syntax.specs.Text.LexNames.{name}
 use Rattle.dh_tokens.proofs.FormProperties.{form-has, has-at, if-has, when-has}
 use Rattle.dh_tokens.proofs.FrontBytes.{at_front}
 use Rattle.dh_tokens.proofs.FrontLaws.{digest-has}

@@ -3,8 +3,8 @@ use Rattle.std.proofs.Common.{◌≡◌, ℕ, ◌+◌, ◌<◌, ◌≤◌, List,
 use Rattle.std.proofs.lemmas.List.{at_drop_more}
 use Rattle.std.specs.Borrow.{Bor}
 use Rattle.dh_syntax.specs.declared.tokens.Mark.{Mark}
-use Rattle.dh_syntax.specs.LexForms.{Form, longest}
-use Rattle.dh_syntax.specs.LexMarks.{mark_form}
+use Rattle.dh_syntax.specs.Text.LexForms.{Form, longest}
+use Rattle.dh_syntax.specs.Text.LexMarks.{mark_form}
 use Rattle.dh_tokens.proofs.FormLaws.{longest-cons, joined_assoc}
 use Rattle.dh_tokens.specs.Forms.{joined}
 use Rattle.dh_tokens.specs.Marks.{spelled_of}

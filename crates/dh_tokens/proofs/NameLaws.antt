@@ -4,9 +4,9 @@ use Rattle.std.specs.List.{prefix_len}
 use Rattle.std.proofs.lemmas.Bool.Decides.{nat_tests}
 use Rattle.std.proofs.lemmas.List.Sums.{prefix_len-le-length}
 use Rattle.std.proofs.lemmas.List.Folds.{length-prefix_len}
-use Rattle.dh_syntax.specs.Characters.{first, is_name_start, is_name_byte}
-use Rattle.dh_syntax.specs.LexForms.{Found, Form, form}
-use Rattle.dh_syntax.specs.LexNames.{name, name_len, named}
+use Rattle.dh_syntax.specs.Text.Characters.{first, is_name_start, is_name_byte}
+use Rattle.dh_syntax.specs.Text.LexForms.{Found, Form, form}
+use Rattle.dh_syntax.specs.Text.LexNames.{name, name_len, named}
 use Rattle.dh_tokens.proofs.FormLaws.{form-some, prefix_len-some}
 
 name_start_is_name_byte : (b : ℕ) → is_name_start b ≡ true → is_name_byte b ≡ true

@@ -2,10 +2,10 @@
 use Rattle.std.proofs.Common.{◌≡◌, ℕ, zero, suc, ◌<◌, ◌≤◌, max, Bool, true, false, ◌&&◌, if◌then◌else◌, nat_lt, List, [], ◌∷◌, take, drop, Option, Some, None, refl, sym, ap, ◌∙◌, inl, inr, codes, arith}
 use Rattle.std.proofs.lemmas.Bool.{cases_lt, lt-ltb, le-ltb, both_ways, and_parts, and_from}
 use Rattle.std.specs.Char.{is_ascii_digit}
-use Rattle.dh_syntax.specs.Characters.{first, is_sign}
-use Rattle.dh_syntax.specs.LexForms.{Found, LeftOut, Form, form, longest}
-use Rattle.dh_syntax.specs.LexNumbers.{natural, integer, double, signed_double, date, time, signed_time, binary, bytes_literal, fractional, is_shaped, natural_found, integer_found}
-use Rattle.dh_syntax.specs.Numerals.{natural_len, integer_len, read_natural, read_integer}
+use Rattle.dh_syntax.specs.Text.Characters.{first, is_sign}
+use Rattle.dh_syntax.specs.Text.LexForms.{Found, LeftOut, Form, form, longest}
+use Rattle.dh_syntax.specs.Text.LexNumbers.{natural, integer, double, signed_double, date, time, signed_time, binary, bytes_literal, fractional, is_shaped, natural_found, integer_found}
+use Rattle.dh_syntax.specs.Text.Numerals.{natural_len, integer_len, read_natural, read_integer}
 use Rattle.dh_tokens.specs.Forms.{joined}
 use Rattle.dh_tokens.specs.Numbers.{unsigned_left_out, signed_left_out, unsigned_form, signed_form}
 use Rattle.dh_tokens.proofs.NumberLaws.{natural_len-some}

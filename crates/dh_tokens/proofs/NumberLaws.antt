@@ -8,9 +8,9 @@ use Rattle.std.proofs.lemmas.Str.Ascii.{IsAscii-nil, IsAscii-cons}
 use Rattle.std.specs.Char.{is_ascii_digit, is_ascii_hexdigit}
 use Rattle.std.specs.List.{prefix_len}
 use Rattle.std.specs.Str.{byte, IsAscii}
-use Rattle.dh_syntax.specs.Characters.{first, begins, is_sign}
-use Rattle.dh_syntax.specs.LexNumbers.{is_shaped}
-use Rattle.dh_syntax.specs.Numerals.{natural_len, integer_len, is_natural, is_integer}
+use Rattle.dh_syntax.specs.Text.Characters.{first, begins, is_sign}
+use Rattle.dh_syntax.specs.Text.LexNumbers.{is_shaped}
+use Rattle.dh_syntax.specs.Text.Numerals.{natural_len, integer_len, is_natural, is_integer}
 use Rattle.dh_tokens.proofs.FormLaws.{prefix_len-some}
 use Rattle.dh_tokens.proofs.Runs.{ascii_run}
 

@@ -3,8 +3,8 @@ use Rattle.std.proofs.Common.{◌≡◌, ℕ, ◌+◌, ◌<◌, Bool, if◌then�
 use Rattle.std.proofs.lemmas.Bool.{lt-ltb}
 use Rattle.dh_syntax.specs.declared.locations.Loc.{Loc}
 use Rattle.dh_syntax.specs.declared.tokens.TokenKind.TheVariants as kinds
-use Rattle.dh_syntax.specs.LexForms.{Form, Is, form}
-use Rattle.dh_syntax.specs.LexLocations.{Components, components, path, path_component, path_form}
+use Rattle.dh_syntax.specs.Text.LexForms.{Form, Is, form}
+use Rattle.dh_syntax.specs.Text.LexLocations.{Components, components, path, path_component, path_form}
 use Rattle.dh_tokens.specs.declared.paths.Root.{Root}
 use Rattle.dh_tokens.specs.Paths.{path_in, root_len, root_loc}
 use Rattle.dh_tokens.proofs.FormLaws.{form-some}

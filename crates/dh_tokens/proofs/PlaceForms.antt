@@ -6,7 +6,7 @@ use Rattle.std.specs.Borrow.{Bor}
 use Rattle.std.specs.Option.{is_some, option_copied}
 use Rattle.std.specs.Result.{IfOk}
 use Rattle.dh_syntax.specs.declared.tokens.TextForm.{TextForm}
-use Rattle.dh_syntax.specs.Lexing.{Before, Place, Outside, Interpolated, Among, form_at}
+use Rattle.dh_syntax.specs.Text.Lexing.{Before, Place, Outside, Interpolated, Among, form_at}
 use Rattle.dh_tokens.specs.declared.forms.Form as forms
 use Rattle.dh_tokens.specs.declared.forms.Found.{Found}
 use Rattle.dh_tokens.specs.declared.places.Literal.{Literal}

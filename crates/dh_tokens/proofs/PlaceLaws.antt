@@ -9,11 +9,11 @@ use Rattle.dh_syntax.specs.declared.tokens.Mark.TheVariants as marks
 use Rattle.dh_syntax.specs.declared.tokens.TextForm.{TextForm}
 use Rattle.dh_syntax.specs.declared.tokens.TokenKind.{TokenKind}
 use Rattle.dh_syntax.specs.declared.tokens.TokenKind.TheVariants as kinds
-use Rattle.dh_syntax.specs.Characters.{begins, code_at, first, is_noncharacter}
-use Rattle.dh_syntax.specs.LexForms.{Found, Is, LeftOut, Faulty, Form, form, stretching}
-use Rattle.dh_syntax.specs.LexTexts.{closing_len, piece_character}
-use Rattle.dh_syntax.specs.Stretches.{Stretch, UpTo, FaultAt, stretch}
-use Rattle.dh_syntax.specs.Lexing.{Before, Place, Outside, Interpolated, Among, form_at, form_or, no_form, opened, place_after}
+use Rattle.dh_syntax.specs.Text.Characters.{begins, code_at, first, is_noncharacter}
+use Rattle.dh_syntax.specs.Text.LexForms.{Found, Is, LeftOut, Faulty, Form, form, stretching}
+use Rattle.dh_syntax.specs.Text.LexTexts.{closing_len, piece_character}
+use Rattle.dh_syntax.specs.Text.Stretches.{Stretch, UpTo, FaultAt, stretch}
+use Rattle.dh_syntax.specs.Text.Lexing.{Before, Place, Outside, Interpolated, Among, form_at, form_or, no_form, opened, place_after}
 use Rattle.dh_tokens.specs.declared.places.Literal.{Literal}
 use Rattle.dh_tokens.specs.declared.places.Open.{Open}
 use Rattle.dh_tokens.specs.declared.places.Open.TheVariants as opens

@@ -7,14 +7,14 @@ use Rattle.dh_syntax.specs.declared.locations.Loc.TheVariants as locs
 use Rattle.dh_syntax.specs.declared.locations.Url.{Url}
 use Rattle.dh_syntax.specs.declared.tokens.TokenKind.{TokenKind}
 use Rattle.dh_syntax.specs.declared.tokens.TokenKind.TheVariants as kinds
-use Rattle.dh_syntax.specs.Characters.{first, begins}
-use Rattle.dh_syntax.specs.LexForms.{Found, White, SkippedLine, Is, LeftOut, TooWide, Faulty, Unclosed, Form, form}
-use Rattle.dh_syntax.specs.LexGaps.{white_space}
-use Rattle.dh_syntax.specs.LexLocations.{Components, after_env, after_scheme, components, environment, path, path_component, path_form, path_from, plain_environment, quoted_environment, url}
-use Rattle.dh_syntax.specs.LexMarks.{Spelled, mark, mark_form, brackets, separators, binders, operators, operators_twice}
-use Rattle.dh_syntax.specs.LexNames.{Reserved, keyword_names, built_in_names, names_left_out, name, name_len, named, named_in, quoted_name, minus_infinity}
-use Rattle.dh_syntax.specs.LexNumbers.{natural_found, integer_found, natural, integer, fractional, double, signed_double, date, time, signed_time, binary, bytes_literal}
-use Rattle.dh_syntax.specs.Numerals.{natural_len, integer_len, read_natural, read_integer}
+use Rattle.dh_syntax.specs.Text.Characters.{first, begins}
+use Rattle.dh_syntax.specs.Text.LexForms.{Found, White, SkippedLine, Is, LeftOut, TooWide, Faulty, Unclosed, Form, form}
+use Rattle.dh_syntax.specs.Text.LexGaps.{white_space}
+use Rattle.dh_syntax.specs.Text.LexLocations.{Components, after_env, after_scheme, components, environment, path, path_component, path_form, path_from, plain_environment, quoted_environment, url}
+use Rattle.dh_syntax.specs.Text.LexMarks.{Spelled, mark, mark_form, brackets, separators, binders, operators, operators_twice}
+use Rattle.dh_syntax.specs.Text.LexNames.{Reserved, keyword_names, built_in_names, names_left_out, name, name_len, named, named_in, quoted_name, minus_infinity}
+use Rattle.dh_syntax.specs.Text.LexNumbers.{natural_found, integer_found, natural, integer, fractional, double, signed_double, date, time, signed_time, binary, bytes_literal}
+use Rattle.dh_syntax.specs.Text.Numerals.{natural_len, integer_len, read_natural, read_integer}
 use Rattle.dh_tokens.specs.Forms.{HasFaultWithin}
 use Rattle.dh_tokens.proofs.FormProperties.{Each, form-has, when-has, if-has, longest-has}
 

@@ -2,11 +2,11 @@
 use Rattle.std.proofs.Common.{◌≡◌, ℕ, zero, suc, pred, ◌+◌, ◌<◌, ◌≤◌, Bool, false, if◌then◌else◌, List, [], ◌∷◌, ◌++◌, length, drop, Option, Some, None, Result, Ok, Err, refl, sym, ap, subst, ◌∙◌, append_assoc, arith}
 use Rattle.std.proofs.lemmas.List.{drop_all}
 use Rattle.dh_syntax.specs.declared.tokens.Token.{Token}
-use Rattle.dh_syntax.specs.Characters.{begins}
-use Rattle.dh_syntax.specs.LexForms.{SkippedLine, Form, stretching}
-use Rattle.dh_syntax.specs.LexGaps.{line_character, with_line_end}
-use Rattle.dh_syntax.specs.Lexing.{LexFault, Start, end_at, lex, start, code_form, Outside, State, Step, Stops, Skips, Gives, by_step, form_at, form_or, no_form, step_at, tokens_from, with_token}
-use Rattle.dh_syntax.specs.Stretches.{stretch}
+use Rattle.dh_syntax.specs.Text.Characters.{begins}
+use Rattle.dh_syntax.specs.Text.LexForms.{SkippedLine, Form, stretching}
+use Rattle.dh_syntax.specs.Text.LexGaps.{line_character, with_line_end}
+use Rattle.dh_syntax.specs.Text.Lexing.{LexFault, Start, end_at, lex, start, code_form, Outside, State, Step, Stops, Skips, Gives, by_step, form_at, form_or, no_form, step_at, tokens_from, with_token}
+use Rattle.dh_syntax.specs.Text.Stretches.{stretch}
 use Rattle.dh_tokens.specs.declared.states.Before as before
 use Rattle.dh_tokens.specs.declared.states.Before.TheVariants as befores
 use Rattle.dh_tokens.specs.declared.states.State as states

@@ -3,8 +3,8 @@ use Rattle.std.proofs.Common.{◌≡◌, ℕ, ◌+◌, ◌-◌, ◌<◌, List, [
 use Rattle.std.proofs.lemmas.List.{drop-drop}
 use Rattle.std.specs.Str.{IsUtf8}
 use Rattle.dh_syntax.specs.declared.tokens.Token.{Token}
-use Rattle.dh_syntax.specs.Lexing as lexing
-use Rattle.dh_syntax.specs.Lexing.{State, Step, Stops, Skips, Gives, form_at, step_at, tokens_from, with_token}
+use Rattle.dh_syntax.specs.Text.Lexing as lexing
+use Rattle.dh_syntax.specs.Text.Lexing.{State, Step, Stops, Skips, Gives, form_at, step_at, tokens_from, with_token}
 use Rattle.dh_tokens.specs.declared.faults.LexFault.{LexFault}
 use Rattle.dh_tokens.specs.declared.faults.LexFault.TheVariants as faults
 use Rattle.dh_tokens.specs.declared.forms.Form as forms

@@ -13,11 +13,11 @@ use Rattle.std.specs.List.{prefix_len, starts_with}
 use Rattle.std.specs.Str.{IsUtf8, IsCharBoundary, continuation_len, lead_bits}
 use Rattle.dh_syntax.specs.declared.tokens.TextForm.{TextForm}
 use Rattle.dh_syntax.specs.declared.tokens.TextForm.TheVariants.{DoubleQuoted, MultiLine}
-use Rattle.dh_syntax.specs.Characters.{first, begins, tab, line_feed, carriage_return, line_end_len, char_len, code_after, is_control, is_noncharacter}
-use Rattle.dh_syntax.specs.LexForms.{form, stretching}
-use Rattle.dh_syntax.specs.LexTexts.{closing_len, double_quoted_character, multi_line_character, character_of, piece_character}
-use Rattle.dh_syntax.specs.Literals.{escaped}
-use Rattle.dh_syntax.specs.Stretches.{Character, Reads, Ends, Faults, UpTo, by_character, stretch, itself, good_character}
+use Rattle.dh_syntax.specs.Text.Characters.{first, begins, tab, line_feed, carriage_return, line_end_len, char_len, code_after, is_control, is_noncharacter}
+use Rattle.dh_syntax.specs.Text.LexForms.{form, stretching}
+use Rattle.dh_syntax.specs.Text.LexTexts.{closing_len, double_quoted_character, multi_line_character, character_of, piece_character}
+use Rattle.dh_syntax.specs.Text.Literals.{escaped}
+use Rattle.dh_syntax.specs.Text.Stretches.{Character, Reads, Ends, Faults, UpTo, by_character, stretch, itself, good_character}
 use Rattle.dh_syntax.proofs.Numbers.{and-true_left, and-true_right}
 use Rattle.dh_literals.specs.Escape.{IsRead}
 use Rattle.dh_literals.proofs.Fronts.{passing_boundary}

@@ -4,8 +4,8 @@ use Rattle.std.proofs.lemmas.List.{drop_more, drop-drop}
 use Rattle.dh_syntax.specs.declared.locations.Loc.{Loc}
 use Rattle.dh_syntax.specs.declared.locations.Url.{Url}
 use Rattle.dh_syntax.specs.declared.tokens.TokenKind.TheVariants as kinds
-use Rattle.dh_syntax.specs.LexForms.{Found, Form, Is, form}
-use Rattle.dh_syntax.specs.LexLocations.{Components, after_dot, components, label_len, more_labels, one_or_more, query_len, query_of, segment, url_form}
+use Rattle.dh_syntax.specs.Text.LexForms.{Found, Form, Is, form}
+use Rattle.dh_syntax.specs.Text.LexLocations.{Components, after_dot, components, label_len, more_labels, one_or_more, query_len, query_of, segment, url_form}
 use Rattle.dh_syntax.proofs.LexingLaws.{more_labels-skip}
 use Rattle.dh_tokens.specs.declared.forms.Form as read
 use Rattle.dh_tokens.specs.declared.urls.Scheme.{Scheme}

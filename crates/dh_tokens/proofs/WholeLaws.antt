@@ -10,8 +10,8 @@ use Rattle.dh_syntax.specs.declared.tokens.Token.{Token}
 use Rattle.dh_syntax.specs.declared.tokens.TokenKind.{TokenKind}
 use Rattle.dh_syntax.specs.declared.tokens.TokenKind.TheVariants as kinds
 use Rattle.dh_syntax.specs.declared.tokens.Mark.TheVariants as marks
-use Rattle.dh_syntax.specs.LexForms.{Found, White, SkippedLine, Is, LeftOut, TooWide, Faulty, Unclosed, Form}
-use Rattle.dh_syntax.specs.Lexing.{Before, Wide, before_after, Place, Outside, Interpolated, Among, State, Step, Stops, Skips, Gives, form_at, is_wide_index, place_after, step, token_step}
+use Rattle.dh_syntax.specs.Text.LexForms.{Found, White, SkippedLine, Is, LeftOut, TooWide, Faulty, Unclosed, Form}
+use Rattle.dh_syntax.specs.Text.Lexing.{Before, Wide, before_after, Place, Outside, Interpolated, Among, State, Step, Stops, Skips, Gives, form_at, is_wide_index, place_after, step, token_step}
 use Rattle.dh_tokens.specs.declared.forms.Found.{Found as Read}
 use Rattle.dh_tokens.specs.declared.forms.Found.TheVariants as found
 use Rattle.dh_tokens.specs.Forms.{EndsCharacter, found_of}

@@ -1,8 +1,8 @@
 -- Components of the program as components of the definition.
 use Rattle.std.specs.Prelude.{ℕ, Bool, List, Option, Some, None, if◌then◌else◌}
 use Rattle.std.specs.Borrow.{Bor}
-use Rattle.dh_syntax.specs.Characters.{is_segment_byte, is_query_byte}
-use Rattle.dh_syntax.specs.LexLocations.{Component, Components, path_component, segment}
+use Rattle.dh_syntax.specs.Text.Characters.{is_segment_byte, is_query_byte}
+use Rattle.dh_syntax.specs.Text.LexLocations.{Component, Components, path_component, segment}
 use Rattle.dh_tokens.specs.declared.components.Place.{Place}
 use Rattle.dh_tokens.specs.declared.components.Place.TheVariants as places
 

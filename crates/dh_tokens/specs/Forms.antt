@@ -1,7 +1,7 @@
 -- Forms of the program as forms of the definition.
 use Rattle.std.specs.Prelude.{ℕ, ◌<◌, ◌≤◌, List, Option, Some, None}
 use Rattle.std.specs.Str.{IsCharBoundary}
-use Rattle.dh_syntax.specs.LexForms as forms
+use Rattle.dh_syntax.specs.Text.LexForms as forms
 use Rattle.dh_tokens.specs.declared.forms.Form.{Form}
 use Rattle.dh_tokens.specs.declared.forms.Found.{Found}
 use Rattle.dh_tokens.specs.declared.forms.Found.TheVariants as found

@@ -2,7 +2,7 @@
 use Rattle.std.specs.Prelude.{ℕ, Bool, not, ◌&&◌, ◌||◌, ◌==◌}
 use Rattle.std.specs.Char.{is_ascii_digit}
 use Rattle.std.specs.Str.{byte}
-use Rattle.dh_syntax.specs.Characters.{is_name_start, tab, line_feed, carriage_return}
+use Rattle.dh_syntax.specs.Text.Characters.{is_name_start, tab, line_feed, carriage_return}
 use Rattle.dh_tokens.specs.declared.fronts.First.{First}
 use Rattle.dh_tokens.specs.declared.fronts.First.TheVariants as firsts
 

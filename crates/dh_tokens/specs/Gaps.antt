@@ -1,7 +1,7 @@
 -- What the readers of comments answer.
 use Rattle.std.specs.Prelude.{ℕ, ◌<◌, Result, Ok, Err}
-use Rattle.dh_syntax.specs.LexGaps as gaps
-use Rattle.dh_syntax.specs.Stretches.{Stretch, UpTo, FaultAt}
+use Rattle.dh_syntax.specs.Text.LexGaps as gaps
+use Rattle.dh_syntax.specs.Text.Stretches.{Stretch, UpTo, FaultAt}
 use Rattle.dh_tokens.specs.declared.gaps.Part.{Part}
 use Rattle.dh_tokens.specs.declared.gaps.Part.TheVariants as parts
 

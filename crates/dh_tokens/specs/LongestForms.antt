@@ -2,9 +2,9 @@
 use Rattle.std.specs.Prelude.{ℕ, List, Option, ◌==◌, if◌then◌else◌}
 use Rattle.std.specs.Str.{byte}
 use Rattle.dh_syntax.specs.declared.tokens.TokenKind.TheVariants as kinds
-use Rattle.dh_syntax.specs.Characters.{first}
-use Rattle.dh_syntax.specs.LexForms.{Form, Is}
-use Rattle.dh_syntax.specs.Lexing.{code_form, form_or, no_form}
+use Rattle.dh_syntax.specs.Text.Characters.{first}
+use Rattle.dh_syntax.specs.Text.LexForms.{Form, Is}
+use Rattle.dh_syntax.specs.Text.Lexing.{code_form, form_or, no_form}
 
 -- the longest form outside the characters of texts
 unfoldable pub longest_form : List ℕ → Option Form

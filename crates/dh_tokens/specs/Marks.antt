@@ -3,8 +3,8 @@ use Rattle.std.specs.Prelude.{ℕ, List, Option, Some, None}
 use Rattle.std.specs.Borrow.{Bor}
 use Rattle.dh_syntax.specs.declared.tokens.Mark.{Mark}
 use Rattle.dh_syntax.specs.declared.tokens.TokenKind.TheVariants as kinds
-use Rattle.dh_syntax.specs.LexForms.{Form, Is, form}
-use Rattle.dh_syntax.specs.LexMarks.{Spelled, spelled}
+use Rattle.dh_syntax.specs.Text.LexForms.{Form, Is, form}
+use Rattle.dh_syntax.specs.Text.LexMarks.{Spelled, spelled}
 
 -- a row of a table of marks
 abbrev pub spelled_of : Bor (List ℕ) × Mark → Spelled

@@ -3,8 +3,8 @@ use Rattle.std.specs.Prelude.{ℕ, List, Option, Some, None}
 use Rattle.std.specs.Borrow.{Bor}
 use Rattle.dh_syntax.specs.declared.tokens.Mark.TheVariants as marks
 use Rattle.dh_syntax.specs.declared.tokens.TokenKind.TheVariants as kinds
-use Rattle.dh_syntax.specs.LexForms.{Found, Is, LeftOut}
-use Rattle.dh_syntax.specs.LexNames.{Reserved, reserved}
+use Rattle.dh_syntax.specs.Text.LexForms.{Found, Is, LeftOut}
+use Rattle.dh_syntax.specs.Text.LexNames.{Reserved, reserved}
 use Rattle.dh_tokens.specs.declared.names.Meaning.{Meaning}
 use Rattle.dh_tokens.specs.declared.names.Meaning.TheVariants as meanings
 

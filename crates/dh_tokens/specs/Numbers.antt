@@ -1,7 +1,7 @@
 -- The forms of numbers at one place.
 use Rattle.std.specs.Prelude.{ℕ, List, [], ◌∷◌, Option}
-use Rattle.dh_syntax.specs.LexForms.{Form, longest}
-use Rattle.dh_syntax.specs.LexNumbers.{natural, integer, double, signed_double, date, time, signed_time, binary, bytes_literal}
+use Rattle.dh_syntax.specs.Text.LexForms.{Form, longest}
+use Rattle.dh_syntax.specs.Text.LexNumbers.{natural, integer, double, signed_double, date, time, signed_time, binary, bytes_literal}
 
 -- the literals without a sign that are left out
 unfoldable pub unsigned_left_out : List ℕ → Option Form

@@ -2,8 +2,8 @@
 use Rattle.std.specs.Prelude.{ℕ, List, Option, drop}
 use Rattle.dh_syntax.specs.declared.locations.Loc.{Loc}
 use Rattle.dh_syntax.specs.declared.locations.Loc.TheVariants as locs
-use Rattle.dh_syntax.specs.LexForms.{Form}
-use Rattle.dh_syntax.specs.LexLocations.{components, path_component, path_form}
+use Rattle.dh_syntax.specs.Text.LexForms.{Form}
+use Rattle.dh_syntax.specs.Text.LexLocations.{components, path_component, path_form}
 use Rattle.dh_tokens.specs.declared.paths.Root.{Root}
 use Rattle.dh_tokens.specs.declared.paths.Root.TheVariants as roots
 

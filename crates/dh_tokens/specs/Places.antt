@@ -2,8 +2,8 @@
 use Rattle.std.specs.Prelude.{ℕ, zero, suc, List, [], ◌∷◌, Option, Some, None}
 use Rattle.std.specs.Str.{IsCharBoundary}
 use Rattle.dh_syntax.specs.declared.tokens.TokenKind.TheVariants as kinds
-use Rattle.dh_syntax.specs.LexForms.{Found, Is}
-use Rattle.dh_syntax.specs.Lexing.{Place, Outside, Interpolated, Among}
+use Rattle.dh_syntax.specs.Text.LexForms.{Found, Is}
+use Rattle.dh_syntax.specs.Text.Lexing.{Place, Outside, Interpolated, Among}
 use Rattle.dh_tokens.specs.declared.forms.Found as read
 use Rattle.dh_tokens.specs.declared.places.Literal.{Literal}
 use Rattle.dh_tokens.specs.declared.places.Open.{Open}

@@ -1,7 +1,7 @@
 -- What the reader of tokens answers.
 use Rattle.std.specs.Prelude.{◌≡◌, List, [], ◌∷◌, ◌++◌, Result, Ok, Err}
 use Rattle.dh_syntax.specs.declared.tokens.Token.{Token}
-use Rattle.dh_syntax.specs.Lexing as lexing
+use Rattle.dh_syntax.specs.Text.Lexing as lexing
 use Rattle.dh_tokens.specs.declared.faults.LexFault.{LexFault}
 use Rattle.dh_tokens.specs.declared.faults.LexFault.TheVariants as faults
 

@@ -1,7 +1,7 @@
 -- States of the reading, and what a form does there, as the definition has them.
 use Rattle.std.specs.Prelude.{◌≡◌, ℕ, List, Option, Some, None, Result, Ok, Err}
 use Rattle.dh_syntax.specs.declared.tokens.Token.{Token}
-use Rattle.dh_syntax.specs.Lexing as lexing
+use Rattle.dh_syntax.specs.Text.Lexing as lexing
 use Rattle.dh_tokens.specs.declared.faults.LexFault.{LexFault}
 use Rattle.dh_tokens.specs.declared.faults.LexFault.TheVariants as faults
 use Rattle.dh_tokens.specs.declared.states.Before.{Before}

@@ -4,10 +4,10 @@ use Rattle.std.specs.List.{prefix_len}
 use Rattle.std.specs.Str.{IsCharBoundary, byte}
 use Rattle.dh_syntax.specs.declared.tokens.TextForm.{TextForm}
 use Rattle.dh_syntax.specs.declared.tokens.TokenKind.TheVariants as kinds
-use Rattle.dh_syntax.specs.Characters.{is_printable}
-use Rattle.dh_syntax.specs.LexForms.{Found, Is}
-use Rattle.dh_syntax.specs.LexTexts.{piece_character}
-use Rattle.dh_syntax.specs.Stretches.{Character, Reads, Ends, Faults}
+use Rattle.dh_syntax.specs.Text.Characters.{is_printable}
+use Rattle.dh_syntax.specs.Text.LexForms.{Found, Is}
+use Rattle.dh_syntax.specs.Text.LexTexts.{piece_character}
+use Rattle.dh_syntax.specs.Text.Stretches.{Character, Reads, Ends, Faults}
 use Rattle.dh_tokens.specs.declared.texts.Next.{Next}
 use Rattle.dh_tokens.specs.declared.texts.Next.TheVariants as next
 

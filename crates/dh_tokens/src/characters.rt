@@ -1,8 +1,8 @@
 //! The character at the front of bytes.
 ghost use Rattle.std.specs.Prelude.{◌≡◌, ℕ, ◌+◌, ◌-◌, ◌*◌, ◌^◌, ◌<◌, ◌≤◌, length, take, drop, slice_index, if◌then◌else◌};
 ghost use Rattle.std.specs.Str.{continuation_len};
-ghost use Rattle.dh_syntax.specs.Characters.{line_end_len, char_len, code_at, code_after};
-ghost use Rattle.dh_syntax.specs.Stretches.{Faults, good_character, itself};
+ghost use Rattle.dh_syntax.specs.Text.Characters.{line_end_len, char_len, code_at, code_after};
+ghost use Rattle.dh_syntax.specs.Text.Stretches.{Faults, good_character, itself};
 
 /// The byte at an index, 0 where there is none.
 pub fn byte_at(rest: &[u8], at: usize) -> u8

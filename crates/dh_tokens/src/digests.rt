@@ -2,7 +2,7 @@
 ghost use Rattle.std.specs.Prelude.{◌≡◌, ◌+◌, length, IsTrue, IfSome, option_map};
 ghost use Rattle.std.specs.Char.{is_ascii_hexdigit};
 ghost use Rattle.std.specs.List.{list_all};
-ghost use Rattle.dh_syntax.specs.LexLocations.{after_sha256, digest, digest_of};
+ghost use Rattle.dh_syntax.specs.Text.LexLocations.{after_sha256, digest, digest_of};
 ghost use Rattle.dh_tokens.specs.Forms.{form_of, IsWithin};
 
 use crate::characters::{after, up_to};

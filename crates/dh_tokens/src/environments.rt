@@ -1,7 +1,7 @@
 //! Names of environment variables ("env" of `dhall.abnf`).
 ghost use Rattle.std.specs.Prelude.{◌≡◌, ◌+◌, length, IfOk, IfSome, IsTrue, option_map};
-ghost use Rattle.dh_syntax.specs.Characters.{begins, is_environment_start};
-ghost use Rattle.dh_syntax.specs.LexLocations.{environment, plain_environment, quoted_environment};
+ghost use Rattle.dh_syntax.specs.Text.Characters.{begins, is_environment_start};
+ghost use Rattle.dh_syntax.specs.Text.LexLocations.{environment, plain_environment, quoted_environment};
 ghost use Rattle.dh_tokens.specs.Forms.{form_of, IsWithin};
 
 use crate::characters::{after, byte_at};

@@ -1,12 +1,12 @@
 //! The longest form at the front, outside the characters of texts.
 ghost use Rattle.std.specs.Prelude.{◌≡◌, ◌<◌, ◌⊎◌, [], ◌∷◌, length, IsTrue, Some, IfOk, IfSome, option_map};
 ghost use Rattle.std.specs.Str.{byte};
-ghost use Rattle.dh_syntax.specs.Characters.{first, is_name_start};
-ghost use Rattle.dh_syntax.specs.LexForms.{longest};
-ghost use Rattle.dh_syntax.specs.Lexing.{code_form, no_form};
-ghost use Rattle.dh_syntax.specs.LexLocations.{digest, environment, url};
-ghost use Rattle.dh_syntax.specs.LexNames.{name};
-ghost use Rattle.dh_syntax.specs.LexTexts.{multi_line_opening};
+ghost use Rattle.dh_syntax.specs.Text.Characters.{first, is_name_start};
+ghost use Rattle.dh_syntax.specs.Text.LexForms.{longest};
+ghost use Rattle.dh_syntax.specs.Text.Lexing.{code_form, no_form};
+ghost use Rattle.dh_syntax.specs.Text.LexLocations.{digest, environment, url};
+ghost use Rattle.dh_syntax.specs.Text.LexNames.{name};
+ghost use Rattle.dh_syntax.specs.Text.LexTexts.{multi_line_opening};
 ghost use Rattle.dh_tokens.specs.Forms.{form_of, joined, IsWithin};
 ghost use Rattle.dh_tokens.specs.Fronts.{is_first};
 ghost use Rattle.dh_tokens.specs.LongestForms.{longest_form};

@@ -1,8 +1,8 @@
 //! What stands between tokens ("whitespace-chunk" of `dhall.abnf`), and skipped lines ("shebang").
 ghost use Rattle.std.specs.Prelude.{◌≡◌, ◌<◌, ◌≤◌, length, ◌==◌, if◌then◌else◌, IsTrue, MatchResult, Some, IfSome, option_map};
-ghost use Rattle.dh_syntax.specs.Characters.{begins, first, tab};
-ghost use Rattle.dh_syntax.specs.LexGaps.{white_space, line_comment, block_comment, skipped_line, line_character, comment_part};
-ghost use Rattle.dh_syntax.specs.Stretches.{stretch, Faults, itself, good_character};
+ghost use Rattle.dh_syntax.specs.Text.Characters.{begins, first, tab};
+ghost use Rattle.dh_syntax.specs.Text.LexGaps.{white_space, line_comment, block_comment, skipped_line, line_character, comment_part};
+ghost use Rattle.dh_syntax.specs.Text.Stretches.{stretch, Faults, itself, good_character};
 ghost use Rattle.dh_tokens.specs.Forms.{form_of, IsWithin};
 ghost use Rattle.dh_tokens.specs.Gaps.{IsForward, extent, part_of};
 

@@ -1,8 +1,8 @@
 //! Marks, with both spellings where there are two.
 ghost use Rattle.std.specs.Prelude.{◌≡◌, ◌<◌, ◌≤◌, ◌⊎◌, length, IfSome, map, option_map};
 ghost use Rattle.std.specs.Option.{ForSome};
-ghost use Rattle.dh_syntax.specs.LexForms.{longest};
-ghost use Rattle.dh_syntax.specs.LexMarks.{mark, mark_form, spelled};
+ghost use Rattle.dh_syntax.specs.Text.LexForms.{longest};
+ghost use Rattle.dh_syntax.specs.Text.LexMarks.{mark, mark_form, spelled};
 ghost use Rattle.dh_tokens.specs.Forms.{form_of, joined, IsWithin};
 ghost use Rattle.dh_tokens.specs.Marks.{best_of, spelled_of};
 

@@ -1,8 +1,8 @@
 //! Names ("simple-label", "quoted-label", "keyword" and "builtin" of `dhall.abnf`).
 ghost use Rattle.std.specs.Prelude.{◌≡◌, if◌then◌else◌, IfOk, IsTrue, Some, None, IfSome, length, option_map, map};
-ghost use Rattle.dh_syntax.specs.Characters.{begins, first, is_name_start};
-ghost use Rattle.dh_syntax.specs.LexForms.{LeftOut, form};
-ghost use Rattle.dh_syntax.specs.LexNames.{name, named, named_in, quoted_name, minus_infinity};
+ghost use Rattle.dh_syntax.specs.Text.Characters.{begins, first, is_name_start};
+ghost use Rattle.dh_syntax.specs.Text.LexForms.{LeftOut, form};
+ghost use Rattle.dh_syntax.specs.Text.LexNames.{name, named, named_in, quoted_name, minus_infinity};
 ghost use Rattle.dh_tokens.specs.Forms.{form_of, found_of, IsWithin};
 ghost use Rattle.dh_tokens.specs.Names.{meaning_of, meaning_or_label, reserved_of};
 

@@ -1,10 +1,10 @@
 //! Numbers ("natural-literal" and "integer-literal" of `dhall.abnf`), and the literals that are left out.
 ghost use Rattle.std.specs.Prelude.{◌≡◌, ◌<◌, ◌≤◌, [], ◌∷◌, if◌then◌else◌, length, take, IsTrue, Some, IfSome, option_map};
 ghost use Rattle.std.specs.Char.{is_ascii_digit};
-ghost use Rattle.dh_syntax.specs.Characters.{first, is_sign};
-ghost use Rattle.dh_syntax.specs.LexForms.{LeftOut, form, longest};
-ghost use Rattle.dh_syntax.specs.LexNumbers.{begins_fraction, begins_exponent, fractional, is_shaped, signed_time, binary, bytes_literal, natural_found, integer_found};
-ghost use Rattle.dh_syntax.specs.Numerals.{natural_len, integer_len, is_natural, is_integer, read_natural, read_integer};
+ghost use Rattle.dh_syntax.specs.Text.Characters.{first, is_sign};
+ghost use Rattle.dh_syntax.specs.Text.LexForms.{LeftOut, form, longest};
+ghost use Rattle.dh_syntax.specs.Text.LexNumbers.{begins_fraction, begins_exponent, fractional, is_shaped, signed_time, binary, bytes_literal, natural_found, integer_found};
+ghost use Rattle.dh_syntax.specs.Text.Numerals.{natural_len, integer_len, is_natural, is_integer, read_natural, read_integer};
 ghost use Rattle.dh_tokens.specs.Numbers.{unsigned_left_out, signed_left_out, unsigned_form, signed_form};
 ghost use Rattle.dh_tokens.specs.Forms.{form_of, found_of, IsWithin};
 

@@ -1,7 +1,7 @@
 //! Where a place stands among the text literals that are open.
 ghost use Rattle.std.specs.Prelude.{◌≡◌, ℕ, OnOk};
-ghost use Rattle.dh_syntax.specs.Lexing.{Outside, opened, place_after};
-ghost use Rattle.dh_syntax.specs.LexForms.{Is};
+ghost use Rattle.dh_syntax.specs.Text.Lexing.{Outside, opened, place_after};
+ghost use Rattle.dh_syntax.specs.Text.LexForms.{Is};
 ghost use Rattle.dh_syntax.specs.declared.tokens.Mark.TheVariants.{BraceClose, BraceOpen};
 ghost use Rattle.dh_syntax.specs.declared.tokens.TokenKind.TheVariants as kinds;
 ghost use Rattle.dh_tokens.specs.Places.{IsRooted, MayStand, place_of};

@@ -1,7 +1,7 @@
 //! The tokens of a text, one form after the other.
 ghost use Rattle.std.specs.Prelude.{◌≡◌, ◌^◌, ◌<◌, ◌≤◌, ◌+◌, ◌-◌, ◌↔◌, length, drop, None, Ok, IfOk, IfErr, IsTrue};
-ghost use Rattle.dh_syntax.specs.Lexing.{Start, Outside, end_at, form_at, form_or, lex, no_form, tokens_from};
-ghost use Rattle.dh_syntax.specs.LexTexts.{text_part};
+ghost use Rattle.dh_syntax.specs.Text.Lexing.{Start, Outside, end_at, form_at, form_or, lex, no_form, tokens_from};
+ghost use Rattle.dh_syntax.specs.Text.LexTexts.{text_part};
 ghost use Rattle.dh_tokens.specs.Forms.{form_of, EndsCharacter, IsWithin};
 ghost use Rattle.dh_tokens.specs.LongestForms.{front_form, interpolated_form};
 ghost use Rattle.dh_tokens.specs.Places.{EndsAmong, IsRooted, IsWhole, place_of, placed};

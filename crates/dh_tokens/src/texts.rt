@@ -3,10 +3,10 @@
 ghost use Rattle.std.specs.Prelude.{◌≡◌, ◌<◌, ◌≤◌, length, IfOk, IfSome, IsTrue, option_map};
 ghost use Rattle.std.specs.List.{prefix_len};
 ghost use Rattle.std.specs.Str.{IsCharBoundary};
-ghost use Rattle.dh_syntax.specs.Characters.{begins};
-ghost use Rattle.dh_syntax.specs.LexForms.{stretching};
-ghost use Rattle.dh_syntax.specs.LexTexts.{closing_len, double_quoted_character, multi_line_character, piece_character, text_part};
-ghost use Rattle.dh_syntax.specs.Stretches.{stretch, good_character};
+ghost use Rattle.dh_syntax.specs.Text.Characters.{begins};
+ghost use Rattle.dh_syntax.specs.Text.LexForms.{stretching};
+ghost use Rattle.dh_syntax.specs.Text.LexTexts.{closing_len, double_quoted_character, multi_line_character, piece_character, text_part};
+ghost use Rattle.dh_syntax.specs.Text.Stretches.{stretch, good_character};
 ghost use Rattle.dh_tokens.specs.Forms.{form_of, EndsCharacter, IsWithin};
 ghost use Rattle.dh_tokens.specs.Texts.{found_piece, is_plain, IsCharacter, IsNext};
 

@@ -1,8 +1,8 @@
 -- Which words name a command.
 use Rattle.std.proofs.Common.{◌≡◌, ℕ, List, Bool, true, false, Some, None, if◌then◌else◌, codes, refl, sym}
 use Rattle.dh_syntax.proofs.Numbers.{bytes_eq-true}
-use Rattle.dh_syntax.specs.Numbers.{bytes_eq}
-use Rattle.dh_syntax.specs.Words.{encode, verb_of}
+use Rattle.dh_syntax.specs.Expressions.Numbers.{bytes_eq}
+use Rattle.dh_syntax.specs.Command.Words.{encode, verb_of}
 
 named-none : (w : List ℕ) (b : Bool) → bytes_eq w (codes "encode") ≡ b → (w ≡ codes "encode" → ⊥) → (if b then Some encode else None) ≡ None
 named-none w true e h = absurd (h (bytes_eq-true w (codes "encode") e))

@@ -5,9 +5,9 @@ use Rattle.std.specs.Io.KnownBytes.{Consumes, Keeps}
 use Rattle.std.specs.declared.alloc.AllocError.{AllocError}
 use Rattle.dh_ports.specs.Counts.{Rose}
 use Rattle.dh_syntax.specs.declared.faults.ParseFault.{ParseFault}
-use Rattle.dh_syntax.specs.Answer.{Written, Answer, encodes, usage, encoded, misused, unread}
-use Rattle.dh_syntax.specs.Tree.{Term}
-use Rattle.dh_syntax.specs.Words.{Word, Verb, encode, command_of}
+use Rattle.dh_syntax.specs.Command.Answer.{Written, Answer, encodes, usage, encoded, misused, unread}
+use Rattle.dh_syntax.specs.Expressions.Tree.{Term}
+use Rattle.dh_syntax.specs.Command.Words.{Word, Verb, encode, command_of}
 use Rattle.dh_parse.specs.SmallSpelling.{ParsesTo}
 use Rattle.dh_top.specs.declared.replies.Reply.{Reply}
 use Rattle.dh_top.specs.Replies.{written, Encodes, Performs}

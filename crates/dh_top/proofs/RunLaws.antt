@@ -5,9 +5,9 @@ use Rattle.dh_ports.specs.Counts.{Rose}
 use Rattle.dh_syntax.specs.declared.faults.ParseFault.{ParseFault}
 use Rattle.dh_syntax.specs.declared.statuses.Status.{Status}
 use Rattle.dh_syntax.specs.declared.statuses.Status.TheVariants as status
-use Rattle.dh_syntax.specs.Answer.{Written, usage, encodes, encoded, unread}
-use Rattle.dh_syntax.specs.Tree.{Term}
-use Rattle.dh_syntax.specs.Words.{Word, Verb, encode, command_of}
+use Rattle.dh_syntax.specs.Command.Answer.{Written, usage, encodes, encoded, unread}
+use Rattle.dh_syntax.specs.Expressions.Tree.{Term}
+use Rattle.dh_syntax.specs.Command.Words.{Word, Verb, encode, command_of}
 use Rattle.dh_parse.specs.SmallSpelling.{ParsesTo}
 use Rattle.std.specs.declared.alloc.AllocError.{AllocError}
 use Rattle.dh_top.specs.declared.replies.Reply.{Reply}

@@ -9,12 +9,12 @@ use Rattle.dh_syntax.specs.declared.expressions.Op.TheVariants as ops
 use Rattle.dh_syntax.specs.declared.operators.BinOp.{BinOp}
 use Rattle.dh_syntax.specs.declared.operators.BinOp.TheVariants as op
 use Rattle.dh_syntax.proofs.Bridge.{term-Var, term-Node, row_of-nil, row_of-cons}
-use Rattle.dh_syntax.specs.Binary.{enc}
-use Rattle.dh_syntax.specs.Bridge.{term, row_of}
-use Rattle.dh_syntax.specs.Cbor.{head, natural, truth, bytes, fewest_bytes}
-use Rattle.dh_syntax.specs.Operators.{op_code}
-use Rattle.dh_syntax.specs.Tree as tree
-use Rattle.dh_syntax.specs.Tree.{Term, Name, Row, end, kid}
+use Rattle.dh_syntax.specs.Bytes.Binary.{enc}
+use Rattle.dh_syntax.specs.Expressions.Bridge.{term, row_of}
+use Rattle.dh_syntax.specs.Bytes.Cbor.{head, natural, truth, bytes, fewest_bytes}
+use Rattle.dh_syntax.specs.Expressions.Operators.{op_code}
+use Rattle.dh_syntax.specs.Expressions.Tree as tree
+use Rattle.dh_syntax.specs.Expressions.Tree.{Term, Name, Row, end, kid}
 use Rattle.dh_parse.specs.SmallTerms.{IsSmall}
 use Rattle.dh_top.specs.SmallBytes.{natural_bytes, operator_bytes}
 

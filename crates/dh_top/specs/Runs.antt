@@ -6,10 +6,10 @@ use Rattle.dh_ports.specs.Counts.{Rose}
 use Rattle.dh_syntax.specs.declared.faults.ParseFault.{ParseFault}
 use Rattle.dh_syntax.specs.declared.statuses.Status.{Status}
 use Rattle.dh_syntax.specs.declared.statuses.Status.TheVariants as status
-use Rattle.dh_syntax.specs.Answer.{Written, Answer, line, unread, without_memory}
-use Rattle.dh_syntax.specs.FaultLines.{read_line, write_line}
-use Rattle.dh_syntax.specs.Tree.{Term}
-use Rattle.dh_syntax.specs.Words.{Word, Verb, command_of}
+use Rattle.dh_syntax.specs.Command.Answer.{Written, Answer, line, unread, without_memory}
+use Rattle.dh_syntax.specs.Command.FaultLines.{read_line, write_line}
+use Rattle.dh_syntax.specs.Expressions.Tree.{Term}
+use Rattle.dh_syntax.specs.Command.Words.{Word, Verb, command_of}
 
 -- the input before and after a run: what is left, where that is known, and how many reads have failed
 pub record Input : Type 0 where

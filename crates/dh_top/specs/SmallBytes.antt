@@ -1,8 +1,8 @@
 -- The heads that the encoder of the small language writes.
 use Rattle.std.specs.Prelude.{ℕ, List, ◌++◌}
 use Rattle.dh_syntax.specs.declared.operators.BinOp.{BinOp}
-use Rattle.dh_syntax.specs.Cbor.{head}
-use Rattle.dh_syntax.specs.Operators.{op_code}
+use Rattle.dh_syntax.specs.Bytes.Cbor.{head}
+use Rattle.dh_syntax.specs.Expressions.Operators.{op_code}
 
 -- a natural number below 2^64
 abbrev pub natural_bytes : ℕ → List ℕ

@@ -2,8 +2,8 @@ ghost use Rattle.std.specs.Prelude.{◌≡◌, ◌<◌, ◌≤◌, ◌+◌, ℕ,
 ghost use Rattle.std.specs.Io.KnownBytes.{Appends, Keeps};
 ghost use Rattle.dh_ports.specs.Counts.{Rose};
 ghost use Rattle.dh_top.specs.Runs.{Gains, Tries, Stops, Delivers, output};
-ghost use Rattle.dh_syntax.specs.Answer.{line};
-ghost use Rattle.dh_syntax.specs.FaultLines.{write_line};
+ghost use Rattle.dh_syntax.specs.Command.Answer.{line};
+ghost use Rattle.dh_syntax.specs.Command.FaultLines.{write_line};
 
 use dh_ports::{Sink, WriteError};
 use dh_syntax::Status;

@@ -1,9 +1,9 @@
 ghost use Rattle.std.specs.Prelude.{◌≡◌, ◌++◌, ◌∷◌, [], IfOk, Ok, Err, map, string_bytes, codes};
 ghost use Rattle.dh_parse.specs.SmallSpelling.{ParsesTo};
 ghost use Rattle.dh_parse.specs.SmallTerms.{IsSmall};
-ghost use Rattle.dh_syntax.specs.Bridge.{term};
-ghost use Rattle.dh_syntax.specs.Answer.{misused, unread, without_memory, line, encoded};
-ghost use Rattle.dh_syntax.specs.FaultLines.{parse_fault_line, usage_line};
+ghost use Rattle.dh_syntax.specs.Expressions.Bridge.{term};
+ghost use Rattle.dh_syntax.specs.Command.Answer.{misused, unread, without_memory, line, encoded};
+ghost use Rattle.dh_syntax.specs.Command.FaultLines.{parse_fault_line, usage_line};
 ghost use Rattle.dh_top.specs.Replies.{written, Encodes, Performs};
 ghost use Rattle.dh_top.specs.Runs.{Makes, reading};
 ghost use Rattle.dh_top.specs.Verbs.{asked};

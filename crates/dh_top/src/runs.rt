@@ -1,7 +1,7 @@
 ghost use Rattle.std.specs.Prelude.{◌≡◌, ◌<◌, ◌⊎◌, Ok, map, string_bytes, IfSome};
 ghost use Rattle.dh_parse.specs.SmallSpelling.{ParsesTo};
 ghost use Rattle.dh_ports.specs.Counts.{Rose};
-ghost use Rattle.dh_syntax.specs.Tree.{Term};
+ghost use Rattle.dh_syntax.specs.Expressions.Tree.{Term};
 ghost use Rattle.dh_top.specs.Runs.{Runs, AreMisused, ReadFailed, Works, reading, output};
 
 use crate::delivery::deliver;

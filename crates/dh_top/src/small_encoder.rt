@@ -1,8 +1,8 @@
 ghost use Rattle.std.specs.Prelude.{◌≡◌, ◌<◌, ◌++◌, ◌∷◌, [], OnOk};
-ghost use Rattle.dh_syntax.specs.Binary.{enc};
-ghost use Rattle.dh_syntax.specs.Bridge.{term};
-ghost use Rattle.dh_syntax.specs.Cbor.{head, truth};
-ghost use Rattle.dh_syntax.specs.Operators.{op_code};
+ghost use Rattle.dh_syntax.specs.Bytes.Binary.{enc};
+ghost use Rattle.dh_syntax.specs.Expressions.Bridge.{term};
+ghost use Rattle.dh_syntax.specs.Bytes.Cbor.{head, truth};
+ghost use Rattle.dh_syntax.specs.Expressions.Operators.{op_code};
 ghost use Rattle.dh_parse.specs.SmallTerms.{IsSmall};
 ghost use Rattle.dh_top.specs.SmallBytes.{natural_bytes, operator_bytes};
 

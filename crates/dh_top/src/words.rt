@@ -1,5 +1,5 @@
 ghost use Rattle.std.specs.Prelude.{◌≡◌, Ok, Err, map, string_bytes, option_map, MatchResult};
-ghost use Rattle.dh_syntax.specs.Words.{verb_of, command_of};
+ghost use Rattle.dh_syntax.specs.Command.Words.{verb_of, command_of};
 ghost use Rattle.dh_top.specs.Verbs.{asked};
 
 /// The commands.

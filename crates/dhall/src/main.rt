@@ -3,7 +3,7 @@
 
 ghost use Rattle.std.specs.Prelude.{◌≡◌, ◌⊎◌};
 ghost use Rattle.std.specs.Process.{exit_status};
-ghost use Rattle.dh_syntax.specs.Statuses.{code_of};
+ghost use Rattle.dh_syntax.specs.Command.Statuses.{code_of};
 
 mod streams;
 

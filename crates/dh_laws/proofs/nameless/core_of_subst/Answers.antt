@@ -1,6 +1,6 @@
 use Rattle.dh_laws.proofs.Cores.{core-subst}
 use Rattle.dh_laws.proofs.FreeShifts.{at_place-substitutes}
-use Rattle.dh_syntax.specs.Nameless.{at_place, core_below}
+use Rattle.dh_syntax.specs.Names.Nameless.{at_place, core_below}
 use Rattle.dh_laws.proofs.nameless.core_of_subst.Goals as goal
 
 pub returns : goal.returns

@@ -1,7 +1,7 @@
 use Rattle.std.proofs.Common.{◌≡◌}
 use lib.Utf8.{encodes}
 use Rattle.std.specs.String.{string_bytes}
-use Rattle.dh_syntax.specs.Literals.{escape}
+use Rattle.dh_syntax.specs.Text.Literals.{escape}
 use Rattle.dh_literals.proofs.escaping.escape.Given as goal
 
 abbrev pub invariant-loop-c : goal.invariant-loop-c

@@ -1,5 +1,5 @@
 use Rattle.std.proofs.Common.{◌∷◌, map, drop, ◌∙◌, ap}
-use Rattle.dh_syntax.specs.Literals.{common, counted, indentation, lines_of}
+use Rattle.dh_syntax.specs.Text.Literals.{common, counted, indentation, lines_of}
 use Rattle.dh_literals.proofs.LinesShared.{indentations, shared_first, shared_more}
 use Rattle.dh_literals.proofs.indentation.indented_by.Goals as goal
 

@@ -1,5 +1,5 @@
 use Rattle.std.proofs.Common.{◌≡◌, ◌∷◌, map, drop}
-use Rattle.dh_syntax.specs.Literals.{common, counted_lines, indentation}
+use Rattle.dh_syntax.specs.Text.Literals.{common, counted_lines, indentation}
 use Rattle.dh_literals.proofs.LinesShared.{later_indentations}
 use Rattle.dh_literals.proofs.indentation.indented_by.Given as goal
 

@@ -1,6 +1,6 @@
 use Rattle.std.proofs.Common.{◌≤◌, ◌∙◌, ap, sym, arith, length, IfOk}
 use Rattle.std.proofs.lemmas.Result.{IfOk-weaker, IfErr-weaker}
-use Rattle.dh_syntax.specs.Bridge.{term}
+use Rattle.dh_syntax.specs.Expressions.Bridge.{term}
 use Rattle.dh_parse.specs.SmallLimits.{outcome}
 use Rattle.dh_parse.specs.SmallMachine.{expecting}
 use Rattle.dh_parse.specs.SmallSpelling.{Spells}

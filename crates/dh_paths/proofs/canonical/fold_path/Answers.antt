@@ -1,5 +1,5 @@
 use Rattle.std.proofs.Common.{◌≡◌, ◌-◌, ◌<◌, length, drop, refl, sym, ◌∙◌, ap, subst, arith}
-use Rattle.dh_syntax.specs.Locations.{canon_path}
+use Rattle.dh_syntax.specs.Imports.Locations.{canon_path}
 use Rattle.dh_syntax.proofs.LocationLaws.{canon_path-twice}
 use Rattle.dh_paths.proofs.Paths.{canon_path_step, canon_path_start, take_less}
 use Rattle.dh_paths.proofs.canonical.fold_path.Goals as goal

@@ -1,5 +1,5 @@
 use Rattle.std.proofs.Common.{◌≡◌, ◌<◌, ◌≤◌, take, drop, vec_len}
-use Rattle.dh_syntax.specs.Locations.{canon_path}
+use Rattle.dh_syntax.specs.Imports.Locations.{canon_path}
 use Rattle.dh_paths.proofs.canonical.fold_path.Given as goal
 
 abbrev pub invariant-loop-at : goal.invariant-loop-at

@@ -1,5 +1,5 @@
 use Rattle.std.proofs.Common.{◌≡◌, sym, ◌∙◌, ap, arith, [], ◌&&◌, not, false, refl}
-use Rattle.dh_syntax.specs.Locations.{is_up}
+use Rattle.dh_syntax.specs.Imports.Locations.{is_up}
 use Rattle.dh_paths.proofs.Paths.{dot_put, name_put, other_put, tail_goes_up}
 use Rattle.dh_paths.proofs.canonical.put_before.Goals as goal
 use Rattle.dh_paths.proofs.canonical.put_before.Goals.{else-goes_up-via-then-goes_up+else-not-is_up, else-goes_up-via-else-goes_up}

@@ -1,5 +1,5 @@
 use Rattle.std.proofs.Common.{◌≡◌, ◌++◌, map, take}
-use Rattle.dh_syntax.specs.Locations.{url_component}
+use Rattle.dh_syntax.specs.Imports.Locations.{url_component}
 use Rattle.dh_paths.proofs.chains.push_escaped.Given as goal
 
 abbrev pub invariant-loop-comp : goal.invariant-loop-comp

@@ -1,5 +1,5 @@
 use Rattle.std.proofs.Common.{◌≡◌, ◌++◌, string_bytes, take}
-use Rattle.dh_syntax.specs.Locations.{local_text}
+use Rattle.dh_syntax.specs.Imports.Locations.{local_text}
 use Rattle.dh_paths.proofs.texts.write_local.Given as goal
 
 abbrev pub invariant-loop-comp : goal.invariant-loop-comp

@@ -1,6 +1,6 @@
 use Rattle.std.proofs.Common.{min, ap, sym, ◌∙◌, arith}
-use Rattle.dh_syntax.specs.Bridge.{row_of}
-use Rattle.dh_syntax.specs.Nesting.{nesting, parts_nesting}
+use Rattle.dh_syntax.specs.Expressions.Bridge.{row_of}
+use Rattle.dh_syntax.specs.Expressions.Nesting.{nesting, parts_nesting}
 use Rattle.dh_syntax.proofs.Bridge.{at_term-Var, at_term-Node}
 use Rattle.dh_syntax.proofs.Nesting.{nesting_keeps, nesting_ends}
 use Rattle.dh_syntax.proofs.shapes.+nest.Goals as goal

@@ -1,6 +1,6 @@
 use Rattle.std.proofs.Common.{◌≡◌, ◌≤◌, min, max, drop}
-use Rattle.dh_syntax.specs.Bridge.{row_of}
-use Rattle.dh_syntax.specs.Nesting.{parts_nesting}
+use Rattle.dh_syntax.specs.Expressions.Bridge.{row_of}
+use Rattle.dh_syntax.specs.Expressions.Nesting.{parts_nesting}
 use Rattle.dh_syntax.proofs.shapes.+nest.Given as goal
 
 abbrev pub invariant-nest_of_kids-loop-kid : goal.invariant-nest_of_kids-loop-kid

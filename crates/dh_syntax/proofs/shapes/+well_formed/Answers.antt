@@ -1,7 +1,7 @@
 use Rattle.std.proofs.Common.{sym, subst, ◌∙◌, refl, IsTrue, ◌↔◌}
 use Rattle.std.proofs.lemmas.Bool.{false≢true}
-use Rattle.dh_syntax.specs.Arity.{IsWellFormed, AreWellFormed}
-use Rattle.dh_syntax.specs.Bridge.{term, row_of}
+use Rattle.dh_syntax.specs.Expressions.Arity.{IsWellFormed, AreWellFormed}
+use Rattle.dh_syntax.specs.Expressions.Bridge.{term, row_of}
 use Rattle.dh_syntax.proofs.WellFormed.{IsWellFormed-Var, IsWellFormed-Node, well_formed_keeps, well_formed_stops, well_formed_ends}
 use Rattle.dh_syntax.proofs.shapes.+well_formed.Goals as goal
 

@@ -1,6 +1,6 @@
 use Rattle.std.proofs.Common.{◌↔◌, drop}
-use Rattle.dh_syntax.specs.Bridge.{row_of}
-use Rattle.dh_syntax.specs.Arity.{AreWellFormed}
+use Rattle.dh_syntax.specs.Expressions.Bridge.{row_of}
+use Rattle.dh_syntax.specs.Expressions.Arity.{AreWellFormed}
 use Rattle.dh_syntax.proofs.shapes.+well_formed.Given as goal
 
 abbrev pub invariant-are_well_formed-loop-kid : goal.invariant-are_well_formed-loop-kid

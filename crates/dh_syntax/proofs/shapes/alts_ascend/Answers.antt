@@ -1,6 +1,6 @@
 use Rattle.std.proofs.Common.{ap, sym, ◌∙◌, rules}
 use Rattle.std.proofs.lemmas.List.Sorted.{answers_always}
-use Rattle.dh_syntax.specs.Order.{before, ascending}
+use Rattle.dh_syntax.specs.Expressions.Order.{before, ascending}
 use Rattle.dh_syntax.proofs.Arity.{alt_labels-map}
 use Rattle.dh_syntax.proofs.Order.{ascending_from_adjacent}
 use Rattle.dh_syntax.proofs.shapes.alts_ascend.Goals as goal

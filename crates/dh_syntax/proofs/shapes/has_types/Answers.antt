@@ -1,6 +1,6 @@
 use Rattle.std.proofs.Common.{◌&&◌, ap, sym, ◌∙◌}
-use Rattle.dh_syntax.specs.Arity.{plain, typed_count}
-use Rattle.dh_syntax.specs.Bridge.{row_of}
+use Rattle.dh_syntax.specs.Expressions.Arity.{plain, typed_count}
+use Rattle.dh_syntax.specs.Expressions.Bridge.{row_of}
 use Rattle.dh_syntax.proofs.Arity.{typed_count-count_by}
 use Rattle.dh_syntax.proofs.shapes.has_types.Goals as goal
 

@@ -1,7 +1,7 @@
 use Rattle.std.proofs.Common.{ap, ◌∙◌, rules}
 use Rattle.std.proofs.lemmas.List.{map-id}
 use Rattle.std.proofs.lemmas.List.Sorted.{answers_always}
-use Rattle.dh_syntax.specs.Order.{before, ascending}
+use Rattle.dh_syntax.specs.Expressions.Order.{before, ascending}
 use Rattle.dh_syntax.proofs.Order.{ascending_from_adjacent}
 use Rattle.dh_syntax.proofs.shapes.is_ascending.Goals as goal
 

@@ -1,5 +1,5 @@
 use Rattle.std.proofs.Common.{◌≡◌, drop}
-use Rattle.dh_syntax.specs.SameTree.{list_eq, alt_eq}
+use Rattle.dh_syntax.specs.Expressions.SameTree.{list_eq, alt_eq}
 use Rattle.dh_terms.proofs.equals.are_same_alts.Given as goal
 
 abbrev pub invariant-loop-i : goal.invariant-loop-i

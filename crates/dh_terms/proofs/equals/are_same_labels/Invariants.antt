@@ -1,6 +1,6 @@
 use Rattle.std.proofs.Common.{◌≡◌, drop}
-use Rattle.dh_syntax.specs.Numbers.{bytes_eq}
-use Rattle.dh_syntax.specs.SameTree.{list_eq}
+use Rattle.dh_syntax.specs.Expressions.Numbers.{bytes_eq}
+use Rattle.dh_syntax.specs.Expressions.SameTree.{list_eq}
 use Rattle.dh_terms.proofs.equals.are_same_labels.Given as goal
 
 abbrev pub invariant-loop-i : goal.invariant-loop-i

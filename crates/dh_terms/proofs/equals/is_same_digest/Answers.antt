@@ -1,5 +1,5 @@
 use Rattle.std.proofs.Common.{sym, ap, Some, ◌∙◌}
-use Rattle.dh_syntax.specs.SameTree.{option_eq, digest_eq}
+use Rattle.dh_syntax.specs.Expressions.SameTree.{option_eq, digest_eq}
 use Rattle.dh_syntax.proofs.NativeTests.{bytes_eq-pointwise}
 use Rattle.dh_terms.proofs.equals.is_same_digest.Goals as goal
 

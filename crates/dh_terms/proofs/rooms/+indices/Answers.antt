@@ -1,8 +1,8 @@
 use Rattle.std.proofs.Common.{sym, subst, ◌∙◌, arith, refl}
 use Rattle.std.proofs.lemmas.Bool.{false≢true}
 use Rattle.std.proofs.lemmas.Bool.Decides.{Decides-ltb}
-use Rattle.dh_syntax.specs.Bridge.{row_of}
-use Rattle.dh_syntax.specs.Indices.{RowIndicesBelow}
+use Rattle.dh_syntax.specs.Expressions.Bridge.{row_of}
+use Rattle.dh_syntax.specs.Names.Indices.{RowIndicesBelow}
 use Rattle.dh_terms.proofs.KidItems.{room_keeps, room_stops, room_ends, indices_iff-Var, indices_iff-Node}
 use Rattle.dh_terms.proofs.rooms.+indices.Goals as goal
 

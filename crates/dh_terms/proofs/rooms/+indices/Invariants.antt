@@ -1,6 +1,6 @@
 use Rattle.std.proofs.Common.{◌↔◌, drop}
-use Rattle.dh_syntax.specs.Bridge.{row_of}
-use Rattle.dh_syntax.specs.Indices.{RowIndicesBelow}
+use Rattle.dh_syntax.specs.Expressions.Bridge.{row_of}
+use Rattle.dh_syntax.specs.Names.Indices.{RowIndicesBelow}
 use Rattle.dh_terms.proofs.rooms.+indices.Given as goal
 
 abbrev pub invariant-are_kids_below-loop-kid : goal.invariant-are_kids_below-loop-kid

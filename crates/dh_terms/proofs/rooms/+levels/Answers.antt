@@ -1,6 +1,6 @@
 use Rattle.std.proofs.Common.{min, ap, sym, ◌∙◌, arith}
-use Rattle.dh_syntax.specs.Bridge.{term, row_of}
-use Rattle.dh_syntax.specs.Nesting.{nesting, parts_nesting}
+use Rattle.dh_syntax.specs.Expressions.Bridge.{term, row_of}
+use Rattle.dh_syntax.specs.Expressions.Nesting.{nesting, parts_nesting}
 use Rattle.dh_syntax.proofs.Bridge.{term-Var, term-Node}
 use Rattle.dh_syntax.proofs.Nesting.{nesting_keeps, nesting_ends}
 use Rattle.dh_terms.proofs.rooms.+levels.Goals as goal

@@ -1,7 +1,7 @@
 use Rattle.std.proofs.Common.{arith, sym, ap, ◌∙◌, ◌&&◌, length}
-use Rattle.dh_syntax.specs.Bridge.{row_of}
-use Rattle.dh_syntax.specs.Numbers.{eq}
-use Rattle.dh_syntax.specs.SameTree.{row_eq}
+use Rattle.dh_syntax.specs.Expressions.Bridge.{row_of}
+use Rattle.dh_syntax.specs.Expressions.Numbers.{eq}
+use Rattle.dh_syntax.specs.Expressions.SameTree.{row_eq}
 use Rattle.dh_syntax.proofs.NativeTests.{eq-native}
 use Rattle.dh_terms.proofs.SameRows.{rows_differ, rows_agree, rows_end, counts_differ, same-Var, same-Node, not-same_forms, not-same_forms_either}
 use Rattle.dh_terms.proofs.sames.+same_expr.Goals as goal

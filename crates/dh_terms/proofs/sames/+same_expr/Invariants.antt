@@ -1,6 +1,6 @@
 use Rattle.std.proofs.Common.{◌≡◌, drop}
-use Rattle.dh_syntax.specs.Bridge.{row_of}
-use Rattle.dh_syntax.specs.SameTree.{row_eq}
+use Rattle.dh_syntax.specs.Expressions.Bridge.{row_of}
+use Rattle.dh_syntax.specs.Expressions.SameTree.{row_eq}
 use Rattle.dh_terms.proofs.sames.+same_expr.Given as goal
 
 abbrev pub invariant-are_same_kids-loop-i : goal.invariant-are_same_kids-loop-i

@@ -1,6 +1,6 @@
 use Rattle.std.proofs.Common.{ap, is_ok}
 use Rattle.std.proofs.lemmas.Result.{MatchResult-at_ok}
-use Rattle.dh_syntax.specs.LexLocations.{hex_bytes}
+use Rattle.dh_syntax.specs.Text.LexLocations.{hex_bytes}
 use Rattle.dh_tokens.proofs.DigestLaws.{decode_sized-hex_bytes, same_digest}
 use Rattle.dh_tokens.proofs.digests.digest_of.Goals as goal
 

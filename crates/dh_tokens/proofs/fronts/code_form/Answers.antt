@@ -1,7 +1,7 @@
 use Rattle.std.proofs.Common.{◌∙◌, sym, ap, option_map}
 use Rattle.std.proofs.lemmas.Bool.{eqb-true}
-use Rattle.dh_syntax.specs.LexLocations.{path}
-use Rattle.dh_syntax.specs.LexNames.{quoted_name}
+use Rattle.dh_syntax.specs.Text.LexLocations.{path}
+use Rattle.dh_syntax.specs.Text.LexNames.{quoted_name}
 use Rattle.dh_tokens.specs.Forms.{form_of, joined}
 use Rattle.dh_tokens.specs.LongestForms.{longest_form}
 use Rattle.dh_tokens.specs.Numbers.{signed_form}

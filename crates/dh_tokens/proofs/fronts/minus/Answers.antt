@@ -1,5 +1,5 @@
 use Rattle.std.proofs.Common.{Bool, None, if◌then◌else◌, ◌∙◌, sym, ap}
-use Rattle.dh_syntax.specs.LexForms.{LeftOut, form}
+use Rattle.dh_syntax.specs.Text.LexForms.{LeftOut, form}
 use Rattle.dh_tokens.proofs.FrontBytes.{code_form-arrow, code_form-line_comment, code_form-minus, code_form-minus_infinity}
 use Rattle.dh_tokens.proofs.fronts.minus.Goals as goal
 

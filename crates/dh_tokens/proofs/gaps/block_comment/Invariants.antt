@@ -1,5 +1,5 @@
 use Rattle.std.proofs.Common.{◌≡◌, ◌≤◌, ◌-◌, length, drop}
-use Rattle.dh_syntax.specs.LexGaps.{comment}
+use Rattle.dh_syntax.specs.Text.LexGaps.{comment}
 use Rattle.dh_syntax.proofs.LexingLaws.{after_bytes}
 use Rattle.dh_tokens.proofs.gaps.block_comment.Given as goal
 

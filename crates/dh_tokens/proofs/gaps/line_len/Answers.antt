@@ -1,6 +1,6 @@
 use Rattle.std.proofs.Common.{◌∙◌, ◌≡◌, ap, min, length, length-drop, arith}
 use Rattle.std.proofs.Math.Nat.{min-le_right}
-use Rattle.dh_syntax.specs.Characters.{line_end_len}
+use Rattle.dh_syntax.specs.Text.Characters.{line_end_len}
 use Rattle.dh_tokens.proofs.GapSteps.{line-step}
 use Rattle.dh_tokens.proofs.gaps.line_len.Goals as goal
 

@@ -1,5 +1,5 @@
 use Rattle.std.proofs.Common.{◌≡◌, drop, map}
-use Rattle.dh_syntax.specs.LexNames.{named_in}
+use Rattle.dh_syntax.specs.Text.LexNames.{named_in}
 use Rattle.dh_tokens.specs.Names.{reserved_of}
 use Rattle.dh_tokens.proofs.names.meaning_in.Given as goal
 

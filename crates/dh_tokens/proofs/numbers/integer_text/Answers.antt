@@ -1,6 +1,6 @@
 use Rattle.std.proofs.Common.{◌∙◌, sym, ap}
 use Rattle.std.proofs.lemmas.List.{length-take-le}
-use Rattle.dh_syntax.specs.Numerals.{is_integer}
+use Rattle.dh_syntax.specs.Text.Numerals.{is_integer}
 use Rattle.dh_tokens.proofs.NumberLaws.{integer_is_ascii, integer_len-within, is_integer-take}
 use Rattle.dh_tokens.proofs.numbers.integer_text.Goals as goal
 

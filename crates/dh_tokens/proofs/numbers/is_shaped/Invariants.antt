@@ -1,5 +1,5 @@
 use Rattle.std.proofs.Common.{◌≡◌, drop}
-use Rattle.dh_syntax.specs.LexNumbers.{is_shaped}
+use Rattle.dh_syntax.specs.Text.LexNumbers.{is_shaped}
 use Rattle.dh_tokens.proofs.numbers.is_shaped.Given as goal
 
 abbrev pub invariant-loop-i : goal.invariant-loop-i

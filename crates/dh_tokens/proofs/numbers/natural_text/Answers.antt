@@ -1,7 +1,7 @@
 use Rattle.std.proofs.Common.{◌∙◌, List, ℕ, take, sym, ap, subst, arith}
 use Rattle.std.specs.Str.{IsAscii}
 use Rattle.std.proofs.lemmas.List.{length-take-le}
-use Rattle.dh_syntax.specs.Numerals.{is_natural}
+use Rattle.dh_syntax.specs.Text.Numerals.{is_natural}
 use Rattle.dh_tokens.proofs.NumberLaws.{natural_is_ascii, natural_len-within, is_natural-take}
 use Rattle.dh_tokens.proofs.numbers.natural_text.Goals as goal
 

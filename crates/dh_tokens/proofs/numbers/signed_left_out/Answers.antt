@@ -1,6 +1,6 @@
 use Rattle.std.proofs.Common.{◌∙◌, ap}
-use Rattle.dh_syntax.specs.LexForms.{LeftOut, form}
-use Rattle.dh_syntax.specs.LexNumbers.{fractional}
+use Rattle.dh_syntax.specs.Text.LexForms.{LeftOut, form}
+use Rattle.dh_syntax.specs.Text.LexNumbers.{fractional}
 use Rattle.dh_tokens.proofs.NumberLaws.{integer_len-within}
 use Rattle.dh_tokens.proofs.NumberForms.{signed_left_out-is}
 use Rattle.dh_tokens.proofs.numbers.signed_left_out.Goals as goal

@@ -1,4 +1,4 @@
-use Rattle.dh_syntax.specs.Lexing.{Outside, Start, form_at}
+use Rattle.dh_syntax.specs.Text.Lexing.{Outside, Start, form_at}
 use Rattle.dh_tokens.specs.Forms.{form_of}
 use Rattle.dh_tokens.specs.LongestForms.{front_form}
 use Rattle.dh_tokens.proofs.PlaceForms.{ok_as}

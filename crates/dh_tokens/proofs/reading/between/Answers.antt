@@ -1,5 +1,5 @@
 use Rattle.std.proofs.Common.{[], None, ap, sym}
-use Rattle.dh_syntax.specs.Lexing.{form_at}
+use Rattle.dh_syntax.specs.Text.Lexing.{form_at}
 use Rattle.dh_tokens.specs.declared.places.Open.TheVariants as opens
 use Rattle.dh_tokens.specs.Forms.{form_of}
 use Rattle.dh_tokens.specs.LongestForms.{front_form, interpolated_form}

@@ -1,5 +1,5 @@
 use Rattle.std.proofs.Common.{◌∙◌, ◌+◌, drop, ap, sym}
-use Rattle.dh_syntax.specs.Lexing.{step_at, tokens_from}
+use Rattle.dh_syntax.specs.Text.Lexing.{step_at, tokens_from}
 use Rattle.dh_tokens.specs.Reading.{onto}
 use Rattle.dh_tokens.specs.Forms.{form_of}
 use Rattle.dh_tokens.specs.States.{state_of}

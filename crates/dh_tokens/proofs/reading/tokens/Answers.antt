@@ -1,5 +1,5 @@
 use Rattle.std.proofs.Common.{◌∙◌, ◌+◌, drop, ap, sym, Ok, arith}
-use Rattle.dh_syntax.specs.Lexing.{end_at, tokens_from}
+use Rattle.dh_syntax.specs.Text.Lexing.{end_at, tokens_from}
 use Rattle.dh_tokens.specs.Reading.{onto}
 use Rattle.dh_tokens.specs.States.{state_of}
 use Rattle.dh_tokens.proofs.ReadingLaws.{read-begins, read-ends, read-further, whole-fault, ready-begins}

@@ -1,5 +1,5 @@
 use Rattle.std.proofs.Common.{◌≡◌, List, ℕ, true, codes, lit<, ◌∙◌, ap, sym}
-use Rattle.dh_syntax.specs.Characters.{begins}
+use Rattle.dh_syntax.specs.Text.Characters.{begins}
 use Rattle.dh_tokens.proofs.TextSteps.{after_text, escape_reads}
 use Rattle.dh_tokens.proofs.texts.double_quoted_character.Goals as goal
 

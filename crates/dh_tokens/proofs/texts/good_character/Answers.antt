@@ -1,7 +1,7 @@
 use Rattle.std.proofs.Common.{List, ℕ, ◌∙◌, ap, sym, subst}
 use Rattle.std.proofs.lemmas.Slice.{between_from_start}
 use Rattle.std.specs.Str.{IsCharBoundary}
-use Rattle.dh_syntax.specs.Characters.{char_len}
+use Rattle.dh_syntax.specs.Text.Characters.{char_len}
 use Rattle.dh_tokens.proofs.TextSteps.{first_character, good_reads}
 use Rattle.dh_tokens.proofs.texts.good_character.Goals as goal
 

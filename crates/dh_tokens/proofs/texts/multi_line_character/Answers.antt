@@ -1,5 +1,5 @@
 use Rattle.std.proofs.Common.{◌≡◌, ◌≤◌, List, ℕ, length, ◌∙◌, ap, sym, arith}
-use Rattle.dh_syntax.specs.Characters.{begins, line_end_len}
+use Rattle.dh_syntax.specs.Text.Characters.{begins, line_end_len}
 use Rattle.dh_tokens.proofs.TextSteps.{triple_reads, dollar_reads, line_end_reads, tab_reads}
 use Rattle.dh_tokens.proofs.texts.multi_line_character.Goals as goal
 

@@ -1,6 +1,6 @@
 use Rattle.std.proofs.Common.{◌≡◌, List, ℕ, ◌∙◌, ap, sym, arith}
-use Rattle.dh_syntax.specs.Characters.{begins}
-use Rattle.dh_syntax.specs.LexTexts.{closing_len, character_of, double_quoted_character, multi_line_character}
+use Rattle.dh_syntax.specs.Text.Characters.{begins}
+use Rattle.dh_syntax.specs.Text.LexTexts.{closing_len, character_of, double_quoted_character, multi_line_character}
 use Rattle.dh_tokens.proofs.TextSteps.{goes_on, next_from}
 use Rattle.dh_tokens.proofs.texts.next_in.Goals as goal
 

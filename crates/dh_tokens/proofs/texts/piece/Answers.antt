@@ -2,9 +2,9 @@ use Rattle.std.proofs.Common.{◌≡◌, ◌<◌, List, [], ℕ, ◌++◌, Some,
 use Rattle.std.proofs.lemmas.Slice.{between_from_start}
 use Rattle.std.specs.Char.{encode_utf8}
 use Rattle.std.specs.String.{string_bytes}
-use Rattle.dh_syntax.specs.LexForms.{Form}
-use Rattle.dh_syntax.specs.LexTexts.{piece_character}
-use Rattle.dh_syntax.specs.Stretches.{stretch, UpTo}
+use Rattle.dh_syntax.specs.Text.LexForms.{Form}
+use Rattle.dh_syntax.specs.Text.LexTexts.{piece_character}
+use Rattle.dh_syntax.specs.Text.Stretches.{stretch, UpTo}
 use Rattle.dh_tokens.specs.Texts.{found_piece}
 use Rattle.dh_tokens.proofs.TextSteps.{started, step, plain_front, plain_whole, one_front, ends_past, ends_here, piece_read}
 use Rattle.dh_tokens.proofs.texts.piece.Goals as goal

@@ -1,6 +1,6 @@
 use Rattle.std.proofs.Common.{◌≡◌, List, ℕ, true, codes, lit<, ◌∙◌, ap, sym}
-use Rattle.dh_syntax.specs.Characters.{begins}
-use Rattle.dh_syntax.specs.LexTexts.{closing_len}
+use Rattle.dh_syntax.specs.Text.Characters.{begins}
+use Rattle.dh_syntax.specs.Text.LexTexts.{closing_len}
 use Rattle.dh_tokens.proofs.TextSteps.{after_text, closing_whole}
 use Rattle.dh_tokens.proofs.texts.text_part.Goals as goal
 

@@ -1,6 +1,6 @@
 use Rattle.std.proofs.Common.{◌≡◌, ◌≤◌, ◌+◌, ◌==◌, take}
 use Rattle.std.specs.List.{prefix_len, suffix_len}
-use Rattle.dh_syntax.specs.Characters.{is_host_byte}
+use Rattle.dh_syntax.specs.Text.Characters.{is_host_byte}
 use Rattle.dh_tokens.proofs.urls.label_len.Given as goal
 
 abbrev pub invariant-loop-len : goal.invariant-loop-len

@@ -1,6 +1,6 @@
 use Rattle.std.proofs.Common.{◌≡◌, ◌≤◌, ◌+◌, ◌-◌, length, take, drop}
 use Rattle.std.specs.Str.{IsAscii}
-use Rattle.dh_syntax.specs.LexLocations.{more_labels}
+use Rattle.dh_syntax.specs.Text.LexLocations.{more_labels}
 use Rattle.dh_tokens.proofs.urls.more_labels.Given as goal
 
 abbrev pub invariant-dots : goal.invariant-dots

@@ -1,5 +1,5 @@
 use Rattle.std.proofs.Common.{Ok, Err}
-use Rattle.dh_syntax.specs.Bridge.{term}
+use Rattle.dh_syntax.specs.Expressions.Bridge.{term}
 use Rattle.dh_top.proofs.Encodings.{encodes_any}
 use Rattle.dh_top.proofs.replies.encoding.Goals as goal
 

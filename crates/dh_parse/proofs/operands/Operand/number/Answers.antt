@@ -1,6 +1,6 @@
 use Rattle.std.proofs.Common.{◌∙◌, ap}
-use Rattle.dh_syntax.specs.Tree as tree
-use Rattle.dh_syntax.specs.Tree.{end}
+use Rattle.dh_syntax.specs.Expressions.Tree as tree
+use Rattle.dh_syntax.specs.Expressions.Tree.{end}
 use Rattle.dh_syntax.specs.declared.expressions.Op.TheVariants as ops
 use Rattle.dh_parse.proofs.Nodes.{leaf, leaf_nesting}
 use Rattle.dh_parse.proofs.operands.Operand.number.Goals as goal

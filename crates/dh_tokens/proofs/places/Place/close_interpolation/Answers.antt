@@ -1,6 +1,6 @@
 use Rattle.std.proofs.Common.{◌∷◌, ◌++◌, ◌∙◌, [], ap, sym, arith}
 use Rattle.std.proofs.lemmas.List.{nil_from_length}
-use Rattle.dh_syntax.specs.Lexing.{place_after}
+use Rattle.dh_syntax.specs.Text.Lexing.{place_after}
 use Rattle.dh_syntax.specs.declared.tokens.TokenKind.TheVariants as kinds
 use Rattle.dh_tokens.proofs.PlaceLaws.{brace_popped, interpolation_missing, interpolation_popped, placed-code, rooted_popped}
 use Rattle.dh_tokens.proofs.places.Place.close_interpolation.Goals as goal

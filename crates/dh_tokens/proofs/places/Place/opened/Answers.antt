@@ -1,5 +1,5 @@
 use Rattle.std.proofs.Common.{◌∙◌, ap, sym}
-use Rattle.dh_syntax.specs.Lexing.{opened}
+use Rattle.dh_syntax.specs.Text.Lexing.{opened}
 use Rattle.dh_tokens.proofs.PlaceLaws.{opened-from, opened-placed}
 use Rattle.dh_tokens.proofs.places.Place.opened.Goals as goal
 

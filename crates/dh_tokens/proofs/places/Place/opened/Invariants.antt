@@ -1,5 +1,5 @@
 use Rattle.std.proofs.Common.{◌≡◌, drop}
-use Rattle.dh_syntax.specs.Lexing.{Outside}
+use Rattle.dh_syntax.specs.Text.Lexing.{Outside}
 use Rattle.dh_tokens.specs.Places.{within}
 use Rattle.dh_tokens.proofs.places.Place.opened.Given as goal
 

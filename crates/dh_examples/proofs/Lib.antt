@@ -1,0 +1,2 @@
+mod BinaryDepthExamples
+mod BinaryFaultExamples

@@ -1,0 +1,4 @@
+pub mod BinaryExamples
+pub mod BinaryReadExamples
+pub mod BinaryRefusalExamples
+pub mod ExampleBytes

@@ -1,0 +1,73 @@
+-- Worked examples of words, of the lines that faults have, and of what is written.
+use Rattle.std.specs.Prelude.{◌≡◌, true, [], ◌∷◌, map, Ok, Err, codes, refl}
+use Rattle.std.specs.Fmt.{digits}
+use Rattle.dh_syntax.specs.declared.expressions.Op.TheVariants as ops
+use Rattle.dh_syntax.specs.declared.faults.ParseFault.TheVariants as fault
+use Rattle.dh_syntax.specs.declared.statuses.Status.TheVariants as status
+use Rattle.dh_syntax.specs.Command.Answer.{misused, unread, without_memory, encoded}
+use Rattle.dh_syntax.specs.Command.FaultLines.{parse_fault_line, usage_line, read_line, write_line, memory_line}
+use Rattle.dh_syntax.specs.Command.Statuses.{code_of}
+use Rattle.dh_syntax.specs.Expressions.Tree.{Node, end}
+use Rattle.dh_syntax.specs.Command.Words.{encode, command_of}
+
+no_words : command_of [] ≡ Err 1
+no_words = refl
+
+encode_alone : command_of (codes "encode" ∷ []) ≡ Ok encode
+encode_alone = refl
+
+encode_and_more : command_of (codes "encode" ∷ codes "x" ∷ []) ≡ Err 2
+encode_and_more = refl
+
+no_command : command_of (codes "Encode" ∷ codes "x" ∷ []) ≡ Err 1
+no_command = refl
+
+empty_word : command_of ([] ∷ []) ≡ Err 1
+empty_word = refl
+
+-- ---- the lines of faults
+
+lines_of_places :
+    map parse_fault_line (fault.NotUtf8 0 ∷ fault.Syntax 12 ∷ fault.Wide 7 ∷ fault.Out 1048575 ∷ [])
+    ≡ map codes ("not UTF-8 at 0" ∷ "syntax at 12" ∷ "number too wide at 7" ∷ "left out of this profile at 1048575" ∷ [])
+unfolding digits
+lines_of_places = refl
+
+lines_without_place :
+    map parse_fault_line (fault.TooLarge ∷ fault.TooNested ∷ fault.Memory ∷ [])
+    ≡ map codes ("larger than 1048576 bytes" ∷ "nested deeper than 500" ∷ "out of memory" ∷ [])
+lines_without_place = refl
+
+lines_of_the_outside : read_line ∷ write_line ∷ memory_line ∷ [] ≡ map codes ("read failed" ∷ "write failed" ∷ "out of memory" ∷ [])
+lines_of_the_outside = refl
+
+word_1 : usage_line 1 ≡ codes "usage: word 1"
+unfolding digits
+word_1 = refl
+
+-- ---- what is written, and the statuses
+
+statuses :
+    map code_of (status.Ok ∷ status.Text ∷ status.Ill ∷ status.Import ∷ status.Limit ∷ status.Usage ∷ status.Read ∷ status.Write ∷ status.Desk ∷ status.Memory ∷ [])
+    ≡ 0 ∷ 1 ∷ 2 ∷ 3 ∷ 4 ∷ 5 ∷ 6 ∷ 7 ∷ 8 ∷ 9 ∷ []
+statuses = refl
+
+-- nothing to standard output, one line to standard error
+refused_word : misused 2 ≡ record { out = []; err = codes "usage: word 2\n"; status = status.Usage }
+unfolding digits
+refused_word = refl
+
+failed_input : unread ≡ record { out = []; err = codes "read failed\n"; status = status.Read }
+failed_input = refl
+
+no_memory : without_memory ≡ record { out = []; err = codes "out of memory\n"; status = status.Memory }
+no_memory = refl
+
+-- the input `"`
+faulty_input : encoded (Err (fault.Syntax 0)) ≡ record { out = []; err = codes "syntax at 0\n"; status = status.Text }
+unfolding digits
+faulty_input = refl
+
+-- `True`, without a line feed
+truth : encoded (Ok (Node (ops.Bool true) end)) ≡ record { out = 0xF5 ∷ []; err = []; status = status.Ok }
+truth = refl

@@ -1,0 +1,3 @@
+pub mod ArityExamples
+pub mod OrderExamples
+pub mod SpellableExamples

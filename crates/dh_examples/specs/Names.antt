@@ -1,0 +1,4 @@
+pub mod AlphaExamples
+pub mod IndicesExamples
+pub mod NamelessExamples
+pub mod SubstExamples

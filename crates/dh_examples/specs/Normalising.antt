@@ -1,0 +1,14 @@
+pub mod ContractExamplesFunctions
+pub mod ContractExamplesLists
+pub mod ContractExamplesLogic
+pub mod ContractExamplesNumbers
+pub mod ContractExamplesRecords
+pub mod ContractExamplesTexts
+pub mod ContractExamplesUnions
+pub mod LicenceExamples
+pub mod LimitExamples
+pub mod NamelessRunExamples
+pub mod NeedsExamples
+pub mod NormalExamples
+pub mod RowTerms
+pub mod StepExamples

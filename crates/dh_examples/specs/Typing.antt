@@ -1,0 +1,12 @@
+pub mod BuiltinTypesExamples
+pub mod NamelessTypingExamples
+pub mod TypeRowExamples
+pub mod TypingExamples
+pub mod TypingExamplesFunctions
+pub mod TypingExamplesOperators
+pub mod TypingExamplesRecords
+pub mod TypingExamplesUnions
+pub mod TypingExamplesUnits
+pub mod TypingFaultExamples
+pub mod TypingLimitExamples
+pub mod TypingTerms

@@ -1,0 +1,7 @@
+pub mod Binary
+pub mod BinaryFaults
+pub mod BinaryHeads
+pub mod BinaryItems
+pub mod BinaryLeaves
+pub mod BinaryRead
+pub mod Cbor

@@ -1,0 +1,4 @@
+pub mod Answer
+pub mod FaultLines
+pub mod Statuses
+pub mod Words

@@ -1,0 +1,15 @@
+pub mod Arity
+pub mod Bridge
+pub mod Builtins
+pub mod Forms
+pub mod Labels
+pub mod Levels
+pub mod Nesting
+pub mod Numbers
+pub mod Operators
+pub mod Order
+pub mod Rows
+pub mod SameTree
+pub mod Spellable
+pub mod Tree
+pub mod Views
