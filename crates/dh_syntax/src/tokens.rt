@@ -13,7 +13,7 @@ pub struct Token {
 }
 
 /// What a token is, with the value read (`dhall.abnf`, from "end-of-line" to "import-hashed").
-#[derive(Debug)]
+#[derive(Debug, Drop)]
 pub enum TokenKind {
     /// A name that is no keyword and no built-in name.
     Name(Label),
@@ -94,19 +94,4 @@ pub enum Mark {
     Forall,
     /// The mark of an operator, `::` and `?` among them.
     Operator(BinOp),
-}
-
-impl Drop for TokenKind {
-    fn drop(self) {
-        match self {
-            TokenKind::Name(_) | TokenKind::Quoted(_) => {}
-            TokenKind::Keyword(_) | TokenKind::Bool(_) | TokenKind::Builtin(_) => {}
-            TokenKind::Natural(_) | TokenKind::Integer(_) => {}
-            TokenKind::TextPiece(_) | TokenKind::Environment(_) => {}
-            TokenKind::Path(_) | TokenKind::Url(_) => {}
-            TokenKind::Digest(_) | TokenKind::Mark(_) | TokenKind::TextOpen(_) => {}
-            TokenKind::InterpolationOpen | TokenKind::InterpolationClose => {}
-            TokenKind::TextClose | TokenKind::End => {}
-        }
-    }
 }
