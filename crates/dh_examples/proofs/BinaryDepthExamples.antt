@@ -7,8 +7,8 @@ use Rattle.dh_syntax.specs.Bytes.BinaryHeads as head
 use Rattle.dh_syntax.specs.Bytes.BinaryItems.{Item, item_marks, at_start, after_marks, open_at, opens_at_most}
 use Rattle.dh_syntax.specs.Bytes.BinaryRead.{Reads}
 use Rattle.dh_examples.specs.Bytes.ExampleBytes.{u, array}
-use Rattle.dh_examples.specs.ExampleNodes.{underscore, variable, assert_that}
 use Rattle.dh_syntax.specs.Expressions.Nesting.{nesting}
+use Rattle.dh_examples.specs.Vocabulary.{assert, underscore, var}
 use Rattle.dh_syntax.specs.Expressions.Tree.{Term}
 
 -- `assert : _`, so many times
@@ -17,8 +17,8 @@ deep_item zero = u 0
 deep_item (suc n) = array (u 19 ∷ deep_item n ∷ [])
 
 abbrev deep : ℕ → Term
-deep zero = variable underscore 0
-deep (suc n) = assert_that (deep n)
+deep zero = var underscore 0
+deep (suc n) = assert (deep n)
 
 abbrev deep_bytes : ℕ → List ℕ
 deep_bytes zero = 0 ∷ []

@@ -3,13 +3,12 @@ use Rattle.std.specs.Prelude.{refl, ℕ, zero, suc, ◌-◌, ◌^◌, [], ◌∷
 use Rattle.std.proofs.Common.{inl, inr}
 use Rattle.dh_syntax.specs.declared.faults.TypeFault.TheVariants as fault
 use Rattle.dh_syntax.specs.Names.Alpha.{alpha}
-use Rattle.dh_examples.specs.ExampleTerms.{x, y, var}
 use Rattle.dh_syntax.specs.Expressions.Forms.{natural, app, let_in, lambda}
 use Rattle.dh_syntax.specs.Typing.NamedTyping.{HasType, IsTypeFault}
 use Rattle.dh_syntax.specs.Typing.Scopes.{Context}
 use Rattle.dh_syntax.specs.Expressions.Tree.{Name, Var, Term}
+use Rattle.dh_examples.specs.Vocabulary.{bool_type, natural_type, one, plus, var, x, y, ◌⟶◌}
 use Rattle.dh_syntax.specs.Typing.TypeRules as rule
-use Rattle.dh_examples.specs.Typing.TypingTerms.{bool_type, natural_type, one, plus, ◌⟶◌}
 
 -- `let x = 1 + 1 in x`, where the value costs 2
 typed : HasType [] (let_in x (plus one one) (var x 0)) natural_type 2

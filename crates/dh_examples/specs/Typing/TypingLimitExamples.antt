@@ -2,7 +2,6 @@
 use Rattle.std.specs.Prelude.{◌≡◌, refl, ℕ, zero, suc, ◌-◌, ◌^◌, [], ◌∷◌, codes}
 use Rattle.dh_syntax.specs.declared.operators.BinOp.TheVariants as bins
 use Rattle.dh_syntax.specs.Names.Alpha.{alpha}
-use Rattle.dh_examples.specs.ExampleTerms.{x, y, var}
 use Rattle.dh_syntax.specs.Expressions.Forms.{natural, operator, app, let_in, some, record_literal}
 use Rattle.dh_syntax.specs.Typing.Inference.{Gives, FromNormal, Aside, Has, Ill, IsWide, IsDeep, IsOver, IsShallow, judged, whole_purse}
 use Rattle.dh_syntax.specs.Normalising.Named.{names}
@@ -11,13 +10,14 @@ use Rattle.dh_syntax.specs.Expressions.Nesting.{nesting}
 use Rattle.dh_syntax.specs.Normalising.Normal.{plain_answer}
 use Rattle.dh_syntax.specs.Typing.Scopes.{Context}
 use Rattle.dh_syntax.specs.Expressions.Tree.{Name, Var, Term}
+use Rattle.dh_examples.specs.Typing.Judged.{inferred}
+use Rattle.dh_examples.specs.Vocabulary.{equivalent, natural_type, one, plus, true_literal, var, x, y, ◌⟶◌}
 use Rattle.dh_syntax.specs.Typing.TypeRules as rule
-use Rattle.dh_examples.specs.Typing.TypingTerms.{inferred, natural_type, one, yes', ◌⟶◌, plus, equivalent}
 
 -- ---- numbers
 
 -- `let x = 340282366920938463463374607431768211455 + 1 in True + x`: the value is normalised before the body is typed
-wide : inferred 10 (let_in x (plus (natural (2 ^ 128 - 1)) one) (plus yes' (var x 0))) ≡ IsWide
+wide : inferred 10 (let_in x (plus (natural (2 ^ 128 - 1)) one) (plus true_literal (var x 0))) ≡ IsWide
 wide = refl
 
 -- without a `let` the sum is not normalised
@@ -25,7 +25,7 @@ not_wide : inferred 0 (plus (natural (2 ^ 128 - 1)) one) ≡ Has natural_type 0
 not_wide = refl
 
 -- a refusal that comes first stands: `let x = 1 + True in ..`
-ill_first : inferred 10 (let_in x (plus one yes') (plus (natural (2 ^ 128 - 1)) one)) ≡ Ill (0 ∷ []) rule.RightSide
+ill_first : inferred 10 (let_in x (plus one true_literal) (plus (natural (2 ^ 128 - 1)) one)) ≡ Ill (0 ∷ []) rule.RightSide
 ill_first = refl
 
 -- ---- units
