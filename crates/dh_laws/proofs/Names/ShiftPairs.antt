@@ -7,7 +7,7 @@ use Rattle.dh_syntax.specs.Names.Subst.{is_var, under, shifting, shift_up, subst
 use Rattle.dh_syntax.specs.Expressions.Tree.{Row, Leaf, Node, end, kid, Name, Var, Term}
 use Rattle.dh_syntax.proofs.Moves.{Agree, moved-agree, moved-then, then}
 use Rattle.dh_syntax.proofs.Numbers.{bytes_eq-comm}
-use Rattle.dh_laws.proofs.Shifts.{moved_index, same_test, same_test_right, leaf-up, under-shifted}
+use Rattle.dh_laws.proofs.Names.Shifts.{moved_index, same_test, same_test_right, leaf-up, under-shifted}
 
 -- Two shifts.
 

@@ -10,10 +10,10 @@ use Rattle.dh_syntax.specs.Names.Subst.{under, is_var, shifting, shift_up, shift
 use Rattle.dh_syntax.specs.Expressions.Tree.{Row, Leaf, Node, end, kid, Name, Var, Term}
 use Rattle.dh_syntax.proofs.AlphaEquations.{alpha-Leaf, alpha-Node, nesting-renamed}
 use Rattle.dh_syntax.proofs.Moves.{nesting-moved}
-use Rattle.dh_laws.proofs.AlphaForms.{core-renamed}
-use Rattle.dh_laws.proofs.Cores.{core-subst, core_below-one_to_one, substituted-below}
-use Rattle.dh_laws.proofs.FreeShifts.{shifting_free, free_shift-nowhere, free_shift-below, core-free_shift, at_place-substitutes, binding_all, ref_of-binding_all}
-use Rattle.dh_laws.proofs.Shifts.{down-up, up-down}
+use Rattle.dh_laws.proofs.Names.AlphaForms.{core-renamed}
+use Rattle.dh_laws.proofs.Names.Cores.{core-subst, core_below-one_to_one, substituted-below}
+use Rattle.dh_laws.proofs.Names.FreeShifts.{shifting_free, free_shift-nowhere, free_shift-below, core-free_shift, at_place-substitutes, binding_all, ref_of-binding_all}
+use Rattle.dh_laws.proofs.Names.Shifts.{down-up, up-down}
 
 -- Shifting and then renaming a binder to `_`.
 renamed-shift_up : (x : Name) (m : ℕ) (z : Name) (e : Term) → renamed (Some z) (shift_up x (under x z m) e) ≡ shift_up x (under x blank m) (renamed (Some z) e)

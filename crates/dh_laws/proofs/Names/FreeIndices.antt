@@ -9,9 +9,9 @@ use Rattle.dh_syntax.specs.Expressions.Nesting.{nesting, parts_nesting}
 use Rattle.dh_syntax.specs.Expressions.Numbers.{le, bytes_eq}
 use Rattle.dh_syntax.specs.Names.Subst.{is_var, under, index_under, shifting, put_under, shift_up, shift_down, subst, subst_row}
 use Rattle.dh_syntax.specs.Expressions.Tree.{Tree, Row, Leaf, Node, end, kid, Name, Var, Term}
-use Rattle.dh_laws.proofs.AlphaForms.{bare-alpha_to}
-use Rattle.dh_laws.proofs.Cores.{core-shift_up_one, core-contracted}
-use Rattle.dh_laws.proofs.Shifts.{moved_index}
+use Rattle.dh_laws.proofs.Names.AlphaForms.{bare-alpha_to}
+use Rattle.dh_laws.proofs.Names.Cores.{core-shift_up_one, core-contracted}
+use Rattle.dh_laws.proofs.Names.Shifts.{moved_index}
 
 -- Nameless: each free variable has an index below the limit.
 

@@ -5,8 +5,8 @@ use Rattle.dh_syntax.specs.Expressions.Numbers.{eq, bytes_eq}
 use Rattle.dh_syntax.specs.Names.Subst.{is_var, index_under, shift_up, put_under, subst, subst_row, is_free}
 use Rattle.dh_syntax.specs.Expressions.Tree.{Row, Leaf, Node, end, kid, Name, Var, Term}
 use Rattle.dh_syntax.proofs.Numbers.{and-true_left, and-true_right, eq-true, bytes_eq-true, bytes_eq-comm}
-use Rattle.dh_laws.proofs.ShiftPairs.{up-subst}
-use Rattle.dh_laws.proofs.Shifts.{same_test_right, subst-not_free, not_free-put_under}
+use Rattle.dh_laws.proofs.Names.ShiftPairs.{up-subst}
+use Rattle.dh_laws.proofs.Names.Shifts.{same_test_right, subst-not_free, not_free-put_under}
 
 -- two variables are two below a binder
 apart-under : (b p q : Bool) (n k : ℕ) → (b ≡ true → p ≡ q) → (b && eq n k) ≡ false → (b && eq (cond p (suc n) n) (cond q (suc k) k)) ≡ false

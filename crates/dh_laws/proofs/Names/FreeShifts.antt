@@ -8,8 +8,8 @@ use Rattle.dh_syntax.specs.Names.Subst.{under, shifting, shift_up}
 use Rattle.dh_syntax.specs.Expressions.Tree.{Leaf, Name, Var, Term}
 use Rattle.dh_syntax.proofs.Moves.{Agree, moved-agree, moved-then, then}
 use Rattle.dh_syntax.proofs.Numbers.{and-true_left, and-true_right, eq-itself, eq-true, bytes_eq-itself, bytes_eq-true}
-use Rattle.dh_laws.proofs.Cores.{IsShiftedTo, shifted-below, IsSubstitution, var_of-ref_of}
-use Rattle.dh_laws.proofs.Shifts.{moved_index}
+use Rattle.dh_laws.proofs.Names.Cores.{IsShiftedTo, shifted-below, IsSubstitution, var_of-ref_of}
+use Rattle.dh_laws.proofs.Names.Shifts.{moved_index}
 
 -- Shifting a free variable.
 

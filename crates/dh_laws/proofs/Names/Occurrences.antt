@@ -9,8 +9,8 @@ use Rattle.dh_syntax.specs.Expressions.Numbers.{eq, bytes_eq}
 use Rattle.dh_syntax.specs.Names.Subst.{under, is_free, is_free_row}
 use Rattle.dh_syntax.specs.Expressions.Tree.{Row, Leaf, Node, end, kid, Name, Var, Term}
 use Rattle.dh_syntax.proofs.Numbers.{and-true_left, and-true_right, eq-itself, eq-true, bytes_eq-true}
-use Rattle.dh_laws.proofs.AlphaForms.{core-renamed}
-use Rattle.dh_laws.proofs.FreeShifts.{not_this, binding_all, ref_of-binding_all}
+use Rattle.dh_laws.proofs.Names.AlphaForms.{core-renamed}
+use Rattle.dh_laws.proofs.Names.FreeShifts.{not_this, binding_all, ref_of-binding_all}
 
 abbrev is_ref : ℕ → Ref → Bool
 is_ref k (Bound i) = eq i k

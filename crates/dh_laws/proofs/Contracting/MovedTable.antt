@@ -12,13 +12,13 @@ use Rattle.dh_syntax.specs.Normalising.Contraction.{Gives, Binders}
 use Rattle.dh_syntax.specs.Expressions.Forms as form
 use Rattle.dh_syntax.specs.Names.Moves.{Move, moved, moved_row}
 use Rattle.dh_syntax.specs.Expressions.Tree.{Tree, Row, Leaf, Node, end, kid}
-use Rattle.dh_laws.proofs.MovedCases.{Commutes, BindersMove, or-carried, from-carried, on-carried}
-use Rattle.dh_laws.proofs.MovedRowsLists.{text_append-moved, text_literal-moved, text_show-moved, text_replace-moved, list_append-moved, list_build-moved, list_fold-moved, list_length-moved, list_head-moved, list_last-moved, list_indexed-moved, list_reverse-moved}
-use Rattle.dh_laws.proofs.MovedRowsLogic.{if_then_else-moved, disjunction-moved, conjunction-moved, equality-moved, inequality-moved, sum-moved, product-moved}
-use Rattle.dh_laws.proofs.MovedRowsNumbers.{natural_build-moved, natural_fold-moved, natural_is_zero-moved, natural_even-moved, natural_odd-moved, natural_to_integer-moved, natural_show-moved, natural_subtract-moved, integer_show-moved, integer_negate-moved, integer_clamp-moved}
-use Rattle.dh_laws.proofs.MovedRowsRecords.{combine-moved, prefer-moved, combine_types-moved, record_completion-moved, select-moved, project-moved, project_type-moved, with_path-moved}
-use Rattle.dh_laws.proofs.MovedRowsUnions.{merge-moved, to_map-moved}
-use Rattle.dh_laws.proofs.MovedViews.{moved_list, moved_two, moved_three, moved_call, moved_lambda, bodies-moved, first_part-moved, first_two-moved, first_three-moved, as_lambda-moved, as_call-moved}
+use Rattle.dh_laws.proofs.Contracting.MovedCases.{Commutes, BindersMove, or-carried, from-carried, on-carried}
+use Rattle.dh_laws.proofs.Contracting.MovedRowsLists.{text_append-moved, text_literal-moved, text_show-moved, text_replace-moved, list_append-moved, list_build-moved, list_fold-moved, list_length-moved, list_head-moved, list_last-moved, list_indexed-moved, list_reverse-moved}
+use Rattle.dh_laws.proofs.Contracting.MovedRowsLogic.{if_then_else-moved, disjunction-moved, conjunction-moved, equality-moved, inequality-moved, sum-moved, product-moved}
+use Rattle.dh_laws.proofs.Contracting.MovedRowsNumbers.{natural_build-moved, natural_fold-moved, natural_is_zero-moved, natural_even-moved, natural_odd-moved, natural_to_integer-moved, natural_show-moved, natural_subtract-moved, integer_show-moved, integer_negate-moved, integer_clamp-moved}
+use Rattle.dh_laws.proofs.Contracting.MovedRowsRecords.{combine-moved, prefer-moved, combine_types-moved, record_completion-moved, select-moved, project-moved, project_type-moved, with_path-moved}
+use Rattle.dh_laws.proofs.Contracting.MovedRowsUnions.{merge-moved, to_map-moved}
+use Rattle.dh_laws.proofs.Contracting.MovedViews.{moved_list, moved_two, moved_three, moved_call, moved_lambda, bodies-moved, first_part-moved, first_two-moved, first_three-moved, as_lambda-moved, as_call-moved}
 
 module _ {S A B C D : Type 0} (m : Move S A B C D) (source : Binders A B) (target : Binders C D) (h : BindersMove m source target) (s : S) where
   abbrev f : Tree A B → Tree C D

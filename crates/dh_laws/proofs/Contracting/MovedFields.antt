@@ -7,7 +7,7 @@ use Rattle.dh_syntax.specs.Names.Moves.{Move, moved}
 use Rattle.dh_syntax.specs.Expressions.Numbers.{bytes_eq}
 use Rattle.dh_syntax.specs.Expressions.Order.{before}
 use Rattle.dh_syntax.specs.Expressions.Tree.{Tree, Name}
-use Rattle.dh_laws.proofs.MovedViews.{moved_fields}
+use Rattle.dh_laws.proofs.Contracting.MovedViews.{moved_fields}
 
 -- a function of both sides of a choice
 if-then_else : {X Y : Type 0} (g : X → Y) (b : Bool) (x y : X) (x' y' : Y) → x' ≡ g x → y' ≡ g y → (if b then x' else y') ≡ g (if b then x else y)

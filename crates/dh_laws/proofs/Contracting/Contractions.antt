@@ -6,9 +6,9 @@ use Rattle.dh_syntax.specs.Names.Nameless.{Ref, core_below, lifted, renamed_ref,
 use Rattle.dh_syntax.specs.Names.Subst.{under, shift_up, shift_down, subst}
 use Rattle.dh_syntax.specs.Expressions.Tree.{Tree, Name, Term}
 use Rattle.dh_syntax.proofs.Numbers.{bytes_eq-itself}
-use Rattle.dh_laws.proofs.Cores.{IsShiftedTo, shifted-by_one, shifted-below, lifted-past, core-shift_up, core-subst, substituted-below, core-contracted, core_below-one_to_one}
-use Rattle.dh_laws.proofs.FreeShifts.{at_place-substitutes, binding_all, ref_of-binding_all}
-use Rattle.dh_laws.proofs.Renamings.{sub-ren, ren-sub, sub-sub, sub-Bound}
+use Rattle.dh_laws.proofs.Names.Cores.{IsShiftedTo, shifted-by_one, shifted-below, lifted-past, core-shift_up, core-subst, substituted-below, core-contracted, core_below-one_to_one}
+use Rattle.dh_laws.proofs.Names.FreeShifts.{at_place-substitutes, binding_all, ref_of-binding_all}
+use Rattle.dh_laws.proofs.Names.Renamings.{sub-ren, ren-sub, sub-sub, sub-Bound}
 
 -- Nameless.
 

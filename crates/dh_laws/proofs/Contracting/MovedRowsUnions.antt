@@ -7,9 +7,9 @@ use Rattle.dh_syntax.specs.Expressions.Forms as form
 use Rattle.dh_syntax.specs.Expressions.Forms.{Fields}
 use Rattle.dh_syntax.specs.Names.Moves.{Move, moved}
 use Rattle.dh_syntax.specs.Expressions.Tree.{Tree, Name}
-use Rattle.dh_laws.proofs.MovedCases.{Commutes, or-carried, when-carried, from-carried, on-carried, on-same-carried}
-use Rattle.dh_laws.proofs.MovedFields.{field_at-moved}
-use Rattle.dh_laws.proofs.MovedViews.{moved_list, moved_fields, moved_two, list-moved, as_record-moved, as_some-moved, as_app-moved, as_alternative-moved, is_none-moved}
+use Rattle.dh_laws.proofs.Contracting.MovedCases.{Commutes, or-carried, when-carried, from-carried, on-carried, on-same-carried}
+use Rattle.dh_laws.proofs.Contracting.MovedFields.{field_at-moved}
+use Rattle.dh_laws.proofs.Contracting.MovedViews.{moved_list, moved_fields, moved_two, list-moved, as_record-moved, as_some-moved, as_app-moved, as_alternative-moved, is_none-moved}
 
 module _ {S A B C D : Type 0} (m : Move S A B C D) (s : S) where
   abbrev f : Tree A B → Tree C D

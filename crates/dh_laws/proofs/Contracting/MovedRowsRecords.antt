@@ -9,9 +9,9 @@ use Rattle.dh_syntax.specs.Expressions.Forms.{Fields, labels_of}
 use Rattle.dh_syntax.specs.Expressions.Labels.{field_at, fields_among, add_field, all_fields, labels_without}
 use Rattle.dh_syntax.specs.Names.Moves.{Move, moved}
 use Rattle.dh_syntax.specs.Expressions.Tree.{Tree, Name}
-use Rattle.dh_laws.proofs.MovedCases.{Commutes, or-carried, when-carried, from-carried, on-carried}
-use Rattle.dh_laws.proofs.MovedFields.{has_others-moved, field_at-moved, fields_at-moved, fields_among-moved, add_field-moved, all_fields-moved}
-use Rattle.dh_laws.proofs.MovedViews.{moved_fields, moved_two, labels_of-moved, record_literal-moved, record_type-moved, as_record-moved, is_empty_record-moved, as_record_type-moved, is_empty_record_type-moved, as_projection-moved, as_prefer-moved, as_combine-moved}
+use Rattle.dh_laws.proofs.Contracting.MovedCases.{Commutes, or-carried, when-carried, from-carried, on-carried}
+use Rattle.dh_laws.proofs.Contracting.MovedFields.{has_others-moved, field_at-moved, fields_at-moved, fields_among-moved, add_field-moved, all_fields-moved}
+use Rattle.dh_laws.proofs.Contracting.MovedViews.{moved_fields, moved_two, labels_of-moved, record_literal-moved, record_type-moved, as_record-moved, is_empty_record-moved, as_record_type-moved, is_empty_record_type-moved, as_projection-moved, as_prefer-moved, as_combine-moved}
 
 module _ {S A B C D : Type 0} (m : Move S A B C D) (s : S) where
   abbrev f : Tree A B → Tree C D

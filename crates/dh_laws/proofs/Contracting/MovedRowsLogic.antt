@@ -7,8 +7,8 @@ use Rattle.dh_syntax.specs.Names.Moves.{Move, moved}
 use Rattle.dh_syntax.specs.Text.Numerals.{natural_fits}
 use Rattle.dh_syntax.specs.Expressions.Tree.{Tree}
 use Rattle.dh_syntax.specs.Expressions.Views.{as_natural}
-use Rattle.dh_laws.proofs.MovedCases.{Commutes, or-carried, when-carried, from-carried, within-carried, on-same-carried}
-use Rattle.dh_laws.proofs.MovedViews.{is_true-moved, is_false-moved, as_natural-moved, is_literal-moved}
+use Rattle.dh_laws.proofs.Contracting.MovedCases.{Commutes, or-carried, when-carried, from-carried, within-carried, on-same-carried}
+use Rattle.dh_laws.proofs.Contracting.MovedViews.{is_true-moved, is_false-moved, as_natural-moved, is_literal-moved}
 
 module _ {S A B C D : Type 0} (m : Move S A B C D) (s : S) where
   abbrev f : Tree A B → Tree C D

@@ -7,8 +7,8 @@ use Rattle.dh_syntax.specs.Normalising.Contraction.{Gives, Binders}
 use Rattle.dh_syntax.specs.Expressions.Forms as form
 use Rattle.dh_syntax.specs.Names.Moves.{Move, moved}
 use Rattle.dh_syntax.specs.Expressions.Tree.{Tree}
-use Rattle.dh_laws.proofs.MovedCases.{Commutes, BindersMove, or-carried, when-carried, from-carried, within-carried, on-same-carried}
-use Rattle.dh_laws.proofs.MovedViews.{as_natural-moved, is_literal-moved, as_integer-moved}
+use Rattle.dh_laws.proofs.Contracting.MovedCases.{Commutes, BindersMove, or-carried, when-carried, from-carried, within-carried, on-same-carried}
+use Rattle.dh_laws.proofs.Contracting.MovedViews.{as_natural-moved, is_literal-moved, as_integer-moved}
 
 module _ {S A B C D : Type 0} (m : Move S A B C D) (s : S) where
   abbrev f : Tree A B → Tree C D

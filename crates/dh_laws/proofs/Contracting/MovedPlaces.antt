@@ -10,7 +10,7 @@ use Rattle.dh_syntax.specs.Normalising.Needs.{Place, part, call_needs, argument_
 use Rattle.dh_syntax.specs.Expressions.Rows.{row_length}
 use Rattle.dh_syntax.specs.Expressions.Tree.{Tree, Row, Leaf, Node, end, kid}
 use Rattle.dh_syntax.specs.Expressions.Views.{as_call}
-use Rattle.dh_laws.proofs.MovedViews.{moved_list, moved_call, as_call-moved}
+use Rattle.dh_laws.proofs.Contracting.MovedViews.{moved_list, moved_call, as_call-moved}
 
 module _ {S A B C D : Type 0} (m : Move S A B C D) (s : S) where
   abbrev f : Tree A B → Tree C D

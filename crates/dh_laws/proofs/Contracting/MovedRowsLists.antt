@@ -13,8 +13,8 @@ use Rattle.dh_syntax.specs.Expressions.Forms.{TextParts}
 use Rattle.dh_syntax.specs.Names.Moves.{Move, moved}
 use Rattle.dh_syntax.specs.Expressions.Tree.{Tree}
 use Rattle.dh_syntax.specs.Expressions.Views.{as_text}
-use Rattle.dh_laws.proofs.MovedCases.{Commutes, BindersMove, or-carried, when-carried, from-carried, within-carried, on-carried, on-same-carried}
-use Rattle.dh_laws.proofs.MovedViews.{moved_list, moved_texts, list-moved, text-moved, list_of-moved, as_text-moved, as_plain_text-moved, as_list-moved, is_empty_list-moved}
+use Rattle.dh_laws.proofs.Contracting.MovedCases.{Commutes, BindersMove, or-carried, when-carried, from-carried, within-carried, on-carried, on-same-carried}
+use Rattle.dh_laws.proofs.Contracting.MovedViews.{moved_list, moved_texts, list-moved, text-moved, list_of-moved, as_text-moved, as_plain_text-moved, as_list-moved, is_empty_list-moved}
 
 module _ {S A B C D : Type 0} (m : Move S A B C D) (s : S) where
   abbrev f : Tree A B → Tree C D

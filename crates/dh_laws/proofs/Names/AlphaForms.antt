@@ -11,9 +11,9 @@ use Rattle.dh_syntax.specs.Names.Subst.{shift_up, shift_down, subst, is_free}
 use Rattle.dh_syntax.specs.Expressions.Tree.{Row, Leaf, Node, end, kid, Name, Var, Term}
 use Rattle.dh_syntax.proofs.AlphaEquations.{nesting-renamed}
 use Rattle.dh_syntax.proofs.Numbers.{bytes_eq-true, bytes_eq-comm}
-use Rattle.dh_laws.proofs.Cores.{IsShiftedTo, shifted-below, shifted-by_one, lifted-past, core-shift_up, core-shift_down, core-subst, putting, putting-nearest, ren-suc-one_to_one, var_of-ref_of}
-use Rattle.dh_laws.proofs.Renamings.{sub-ren, ren-is_sub}
-use Rattle.dh_laws.proofs.Shifts.{is_free-subst}
+use Rattle.dh_laws.proofs.Names.Cores.{IsShiftedTo, shifted-below, shifted-by_one, lifted-past, core-shift_up, core-shift_down, core-subst, putting, putting-nearest, ren-suc-one_to_one, var_of-ref_of}
+use Rattle.dh_laws.proofs.Names.Renamings.{sub-ren, ren-is_sub}
+use Rattle.dh_laws.proofs.Names.Shifts.{is_free-subst}
 
 -- Renaming a binder to `_`.
 

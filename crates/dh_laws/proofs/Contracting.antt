@@ -1,0 +1,11 @@
+pub mod Contractions
+pub mod MovedCases
+pub mod MovedFields
+pub mod MovedPlaces
+pub mod MovedRowsLists
+pub mod MovedRowsLogic
+pub mod MovedRowsNumbers
+pub mod MovedRowsRecords
+pub mod MovedRowsUnions
+pub mod MovedTable
+pub mod MovedViews

@@ -1,0 +1,9 @@
+pub mod MovedRuns
+pub mod NamedAnswers
+pub mod NamedRuns
+pub mod NamelessAnswers
+pub mod NamelessTests
+pub mod RunCosts
+pub mod RunLimits
+pub mod RunsAlike
+pub mod RunsSteady
