@@ -1,4 +1,5 @@
 pub mod Alpha
+pub mod Grafts
 pub mod Indices
 pub mod LabelOrder
 pub mod Nameless

@@ -2,16 +2,9 @@
 use Rattle.std.specs.Prelude.{◌≡◌, ℕ, Bool, true, false, Option, Some, None, option_map, refl}
 use Rattle.std.proofs.Common.{ap, ◌∙◌}
 use Rattle.dh_syntax.specs.Normalising.Contraction.{Contraction, Nothing, Gives, TooWide, IfSame, Binders, ◌or◌, when, from, on, within}
-use Rattle.dh_syntax.specs.Names.Moves.{Move, moved}
+use Rattle.dh_laws.specs.Grafts.{Graft, grafted, carried}
 use Rattle.dh_syntax.specs.Expressions.Numbers.{le}
 use Rattle.dh_syntax.specs.Expressions.Tree.{Tree}
-
--- what a row answers, with the function on its expressions
-abbrev pub carried : {S T : Type 0} → (S → T) → Contraction S → Contraction T
-carried f Nothing = Nothing
-carried f (Gives e) = Gives (f e)
-carried f TooWide = TooWide
-carried f (IfSame l r e) = IfSame (f l) (f r) (f e)
 
 -- the row c of the results is what the row d answers, carried over
 abbrev pub Commutes : {S T : Type 0} → (S → T) → Contraction T → Contraction S → Type 0
@@ -34,8 +27,13 @@ module _ {S T : Type 0} (f : S → T) where
   when-carried b' true c' c p q = ap (λ x. when x c') p ∙ q
   when-carried b' false c' c p q = ap (λ x. when x c') p
 
-  pub from-carried : (k stage : ℕ) (c' : Contraction T) (c : Contraction S) → Commutes f c' c → Commutes f (from k stage c') (from k stage c)
-  from-carried k stage c' c q = when-carried (le k stage) (le k stage) c' c refl q
+  -- the case is looked at only where its stage is reached
+  whenever-carried : (b : Bool) (c' : Contraction T) (c : Contraction S) → (b ≡ true → Commutes f c' c) → Commutes f (when b c') (when b c)
+  whenever-carried true c' c q = q refl
+  whenever-carried false c' c q = refl
+
+  pub from-carried : (k stage : ℕ) (c' : Contraction T) (c : Contraction S) → (le k stage ≡ true → Commutes f c' c) → Commutes f (from k stage c') (from k stage c)
+  from-carried k stage c' c q = whenever-carried (le k stage) c' c q
 
   pub within-carried : (b' b : Bool) (e' : T) (e : S) → b' ≡ b → e' ≡ f e → Commutes f (within b' e') (within b e)
   within-carried b' true e' e p q = ap (λ x. within x e') p ∙ ap Gives q
@@ -46,14 +44,19 @@ module _ {S T : Type 0} (f : S → T) where
   on-carried g o' (Some x) k' k p q = ap (λ y. on y k') p ∙ q x
   on-carried g o' None k' k p q = ap (λ y. on y k') p
 
+  pub on-known-carried : {X Y : Type 0} (g : X → Y) (o' : Option Y) (o : Option X) (k' : Y → Contraction T) (k : X → Contraction S)
+      → o' ≡ option_map g o → ((x : X) → o ≡ Some x → Commutes f (k' (g x)) (k x)) → Commutes f (on o' k') (on o k)
+  on-known-carried g o' (Some x) k' k p q = ap (λ y. on y k') p ∙ q x refl
+  on-known-carried g o' None k' k p q = ap (λ y. on y k') p
+
   -- a case under the condition that two views agree
   pub on-same-carried : {X : Type 0} (o' o : Option X) (k' : X → Contraction T) (k : X → Contraction S)
       → o' ≡ o → ((x : X) → Commutes f (k' x) (k x)) → Commutes f (on o' k') (on o k)
   on-same-carried o' (Some x) k' k p q = ap (λ y. on y k') p ∙ q x
   on-same-carried o' None k' k p q = ap (λ y. on y k') p
 
--- What the rows need of binders commutes with a move.
-pub record BindersMove {S A B C D : Type 0} (m : Move S A B C D) (source : Binders A B) (target : Binders C D) : Type 0 where
-  pub put : (s : S) (x : B) (a b : Tree A B) → target.put (m.binder x) (moved m s a) (moved m (m.enter s x) b) ≡ moved m s (source.put x a b)
-  pub successor : (s : S) → target.successor ≡ moved m s source.successor
-  pub cons : (s : S) (t : Tree A B) → target.cons (moved m s t) ≡ moved m s (source.cons t)
+-- What the rows need of binders commutes with a graft.
+pub record BindersGraft {S A B C D : Type 0} (m : Graft S A B C D) (source : Binders A B) (target : Binders C D) : Type 0 where
+  pub put : (s : S) (x : B) (a b : Tree A B) → target.put (m.binder x) (grafted m s a) (grafted m (m.enter s x) b) ≡ grafted m s (source.put x a b)
+  pub successor : (s : S) → target.successor ≡ grafted m s source.successor
+  pub cons : (s : S) (t : Tree A B) → target.cons (grafted m s t) ≡ grafted m s (source.cons t)
