@@ -1,6 +1,8 @@
 pub mod Alpha
 pub mod Grafts
 pub mod Indices
+pub mod KeptHeads
+pub mod KeptRuns
 pub mod LabelOrder
 pub mod Nameless
 pub mod NamelessAnswers

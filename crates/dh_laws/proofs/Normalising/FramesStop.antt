@@ -4,42 +4,38 @@ use Rattle.std.proofs.Common.{ap, ◌∙◌, arith}
 use Rattle.dh_syntax.specs.Normalising.Contraction.{Contraction, Nothing, Gives, TooWide, IfSame}
 use Rattle.dh_syntax.specs.Normalising.Heads.{Lang, Mode, Head, Whole, Found, Wide, Deep, Over, and_then, counted}
 use Rattle.dh_syntax.specs.Normalising.Needs.{Place}
-use Rattle.dh_laws.proofs.Normalising.FrameMachine.{Task, Run, Look, Row, Right, Same, Complete, Parts, Frame, Need, Keep, Done, AtLeft, AtRight, AtPart, State, Go, Back, Stop, step, resumed}
-use Rattle.dh_laws.proofs.Normalising.FrameMachine as frames
-use Rattle.dh_laws.proofs.Normalising.KeepingMachine.{Out, Next, machine, machine-few, head-few}
+use Rattle.dh_laws.specs.KeptRuns.{Out, steps, Task, Run, Look, Row, Right, Same, Complete, Parts, Frame, Need, Keep, Done, AtLeft, AtRight, AtPart, State, Go, Back, Stop, step, resumed}
+use Rattle.dh_laws.specs.KeptRuns as frames
+use Rattle.dh_laws.proofs.Normalising.KeepingMachine.{Next, machine, machine-few, head-few}
 use Rattle.dh_laws.proofs.Normalising.KeepingMachine as keeping
 use Rattle.dh_laws.proofs.Normalising.RunsSteady.{AtMost}
 
 module _ {S : Type 0} (K : Lang S) (Store : Type 0) (kept : Store → S → Option S) (keep : Store → S → S → Store) where
   abbrev Config : Type 0
-  Config = State K Store kept keep
+  Config = State S Store
 
   abbrev Answers : Type 0
-  Answers = Out K Store kept keep
+  Answers = Out S Store
 
   abbrev Frames : Type 0
-  Frames = List (Frame K Store kept keep)
+  Frames = List (Frame S)
 
-  abbrev pub steps : ℕ → Config → Config
-  steps zero c = c
-  steps (suc n) c = steps n (step K Store kept keep c)
-
-  -- after some steps
+  -- after some steps K Store kept keep
   abbrev pub Reach : Config → Config → Type 0
-  Reach c d = (n : ℕ) × (steps n c ≡ d)
+  Reach c d = (n : ℕ) × (steps K Store kept keep n c ≡ d)
 
-  steps-plus : (n k : ℕ) (c : Config) → steps (n + k) c ≡ steps k (steps n c)
-  steps-plus zero k c = ap (λ m. steps m c) {x = 0 + k} {y = k} (omega arith)
-  steps-plus (suc n) k c = ap (λ m. steps m c) {x = suc n + k} {y = suc (n + k)} (omega arith) ∙ steps-plus n k (step K Store kept keep c)
+  steps-plus : (n k : ℕ) (c : Config) → steps K Store kept keep (n + k) c ≡ steps K Store kept keep k (steps K Store kept keep n c)
+  steps-plus zero k c = ap (λ m. steps K Store kept keep m c) {x = 0 + k} {y = k} (omega arith)
+  steps-plus (suc n) k c = ap (λ m. steps K Store kept keep m c) {x = suc n + k} {y = suc (n + k)} (omega arith) ∙ steps-plus n k (step K Store kept keep c)
 
   reach-on : (c : Config) (d : Config) → Reach (step K Store kept keep c) d → Reach c d
   reach-on c d (n, p) = (suc n, p)
 
   reach-trans : (c d e : Config) → Reach c d → Reach d e → Reach c e
-  reach-trans c d e (n, p) (k, q) = (n + k, steps-plus n k c ∙ ap (steps k) p ∙ q)
+  reach-trans c d e (n, p) (k, q) = (n + k, steps-plus n k c ∙ ap (steps K Store kept keep k) p ∙ q)
 
   -- an answer comes back to a frame
-  frame-reach : (f : Frame K Store kept keep) (fs : Frames) (units : ℕ) (a : Answers) (next : S × Store → ℕ → Answers) → AtMost units a
+  frame-reach : (f : Frame S) (fs : Frames) (units : ℕ) (a : Answers) (next : S × Store → ℕ → Answers) → AtMost units a
       → ((z : S × Store) (left : ℕ) → left ≤ units → Reach (resumed K Store kept keep f z left fs) (Back (next z left) fs)) → Reach (Back a (f ∷ fs)) (Back (and_then a next) fs)
   frame-reach f fs units (Found z left) next m k = reach-on _ _ (k z left m)
   frame-reach f fs units (Wide left) next m k = (1, refl)
@@ -57,11 +53,11 @@ module _ {S : Type 0} (K : Lang S) (Store : Type 0) (kept : Store → S → Opti
     AgainReach bound again = (units : ℕ) (st : Store) (e : S) (fs : Frames) → units < bound → Reach (Go hh (Look e) units st fs) (Back (again units st e) fs)
 
     gives-reach : (again : Next K Store kept keep) (bound units : ℕ) (st : Store) (f : S) (fs : Frames) → AgainReach bound again → units ≤ bound
-        → Reach (frames.counting K Store kept keep hh (Look f) units st fs) (Back (counted units (λ left. again left st f)) fs)
+        → Reach (frames.counting hh (Look f) units st fs) (Back (counted units (λ left. again left st f)) fs)
     gives-reach again bound zero st f fs a b = (0, refl)
     gives-reach again bound (suc left) st f fs a b = a left st f fs (omega arith)
 
-    wide-reach : (units : ℕ) (fs : Frames) → Reach (frames.too_wide K Store kept keep units fs) (Back (counted units (λ left. Wide left)) fs)
+    wide-reach : (units : ℕ) (fs : Frames) → Reach (frames.too_wide units fs) (Back (counted units (λ left. Wide left)) fs)
     wide-reach zero fs = (0, refl)
     wide-reach (suc left) fs = (0, refl)
 

@@ -9,12 +9,10 @@ use Rattle.dh_syntax.specs.Names.Nameless.{Core, Bare, Free}
 use Rattle.dh_syntax.specs.Normalising.NamelessRuns.{nameless_eq, cores, bares}
 use Rattle.dh_syntax.specs.Normalising.Normal.{units_left, endless}
 use Rattle.dh_syntax.specs.Expressions.Tree.{Leaf}
-use Rattle.dh_laws.proofs.Normalising.CoresAgain.{bares_law, cores_again}
-use Rattle.dh_laws.proofs.Normalising.KeepingMachine.{machine, Sound, Finds, machine-lag}
-use Rattle.dh_laws.proofs.Normalising.FrameMachine.{Run, Go, Stop}
-use Rattle.dh_laws.proofs.Normalising.FramesStop.{steps}
-use Rattle.dh_laws.proofs.Normalising.LagRuns.{plain_below, HF, Heads}
-use Rattle.dh_laws.proofs.Normalising.Lags.{Lag}
+use Rattle.dh_laws.specs.KeptRuns.{Sound, Run, Go, Stop, steps}
+use Rattle.dh_laws.specs.KeptHeads.{Heads, Lag, endless_run, head_run}
+use Rattle.dh_laws.proofs.Normalising.NamelessAgain.{bares_law, cores_again}
+use Rattle.dh_laws.proofs.Normalising.KeepingMachine.{machine, Finds, machine-lag}
 use Rattle.dh_laws.proofs.Normalising.NamelessTests.{bare_test}
 
 abbrev x : Core
@@ -27,14 +25,14 @@ abbrev subtracted : Core → Core
 subtracted a = form.call builtins.NaturalSubtract (a ∷ x ∷ [])
 
 -- `Natural/subtract (1 + 1) x` has the head `Natural/subtract 2 x`: the function of the application has an argument of it inside
-found : HF cores (subtracted sum) 2 4 ≡ Found (subtracted (form.natural 2)) 1
+found : head_run cores (subtracted sum) 2 4 ≡ Found (subtracted (form.natural 2)) 1
 found = refl
 
-found_at_once : HF cores (subtracted (form.natural 2)) 2 2 ≡ Found (subtracted (form.natural 2)) 0
+found_at_once : head_run cores (subtracted (form.natural 2)) 2 2 ≡ Found (subtracted (form.natural 2)) 0
 found_at_once = refl
 
 -- fewer heights do not suffice
-one_height : HF cores (subtracted (form.natural 2)) 1 4 ≡ Deep 4
+one_height : head_run cores (subtracted (form.natural 2)) 1 4 ≡ Deep 4
 one_height = refl
 
 is_head : Heads cores (subtracted sum) (subtracted (form.natural 2))
@@ -76,7 +74,7 @@ plain_cost = refl
 kept_cost : units_left (machine bares Kept kept keep 3 Whole 20 [] twice) ≡ Some 16
 kept_cost = refl
 
-behind : Lag 3 (Finds bares Kept kept keep) (λ h u. plain_below bares h Whole u twice) 20 (machine bares Kept kept keep 3 Whole 20 [] twice)
+behind : Lag 3 (Finds bares Kept kept keep) (λ h u. endless_run bares h Whole u twice) 20 (machine bares Kept kept keep 3 Whole 20 [] twice)
 behind = machine-lag bares Kept kept keep bares_law kept-keep 3 Whole 20 [] twice nothing_kept
 
 -- with frames: as many steps suffice, and more change nothing
