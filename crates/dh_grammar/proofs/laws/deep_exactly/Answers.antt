@@ -1,0 +1,5 @@
+use Rattle.dh_grammar.proofs.Deep as proof
+use Rattle.dh_grammar.proofs.laws.deep_exactly.Goals as goal
+
+pub returns : goal.returns
+returns c = proof.deep_exactly

@@ -1,0 +1,5 @@
+use Rattle.dh_grammar.proofs.Answering as proof
+use Rattle.dh_grammar.proofs.laws.parses.Goals as goal
+
+pub returns : goal.returns
+returns c = proof.parses

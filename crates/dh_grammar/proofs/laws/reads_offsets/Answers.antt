@@ -1,0 +1,5 @@
+use Rattle.dh_grammar.proofs.WithOffsets as proof
+use Rattle.dh_grammar.proofs.laws.reads_offsets.Goals as goal
+
+pub returns : goal.returns
+returns c = proof.reads_offsets
