@@ -2,7 +2,8 @@
 use Rattle.std.proofs.Common.{◌≡◌, Bool, true, false, refl}
 use Rattle.std.specs.Prelude.{Option, Some, None}
 use Rattle.dh_syntax.specs.Text.Derivation.{NameToken, Key, Keys, Derivation, updates, merging, to_map, Note, Lets, Items, Alternatives, Fields, Entry, Entries}
-use Rattle.dh_grammar.specs.Mapping.{Carries, option_map}
+use Rattle.dh_grammar.specs.Inside.Mapping.{Carries}
+use Rattle.dh_grammar.specs.Making.{option_map}
 use Rattle.dh_grammar.specs.Spanning.{spanning, spanned_tree, to_spans}
 use Rattle.dh_grammar.specs.Spans.{note_stretches, lets_stretches, items_stretches, entry_stretches, entries_stretches}
 use Rattle.dh_grammar.specs.Trees.{trees, updating, noting, quantify, add_let, add_item, add_alternative, add_field, add_entry}

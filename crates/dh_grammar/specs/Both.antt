@@ -1,6 +1,6 @@
 -- Two machines at once: what both make, side by side.
-use Rattle.dh_grammar.specs.Machine.{Sorts, Making}
-use Rattle.dh_grammar.specs.Mapping.{Mapping, option_map}
+use Rattle.dh_grammar.specs.Making.{Sorts, Making}
+use Rattle.dh_grammar.specs.Making.{option_map}
 
 abbrev pub both_sorts : Sorts → Sorts → Sorts
 both_sorts K L = record { tree = K.tree × L.tree; note = K.note × L.note; lets = K.lets × L.lets; chunks = K.chunks × L.chunks; items = K.items × L.items; alternatives = K.alternatives × L.alternatives; fields = K.fields × L.fields; entry = K.entry × L.entry; entries = K.entries × L.entries }
@@ -61,9 +61,3 @@ both m n = record {
   given = λ ks x. (m.given ks x.0, n.given ks x.1);
   add_entry = λ es e. (m.add_entry (option_map first es) e.0, n.add_entry (option_map second es) e.1);
 }
-
-abbrev pub beside : {J K L : Sorts} → Mapping J K → Mapping J L → Mapping J (both_sorts K L)
-beside f g = record { tree = λ x. (f.tree x, g.tree x); note = λ x. (f.note x, g.note x); lets = λ x. (f.lets x, g.lets x); chunks = λ x. (f.chunks x, g.chunks x); items = λ x. (f.items x, g.items x); alternatives = λ x. (f.alternatives x, g.alternatives x); fields = λ x. (f.fields x, g.fields x); entry = λ x. (f.entry x, g.entry x); entries = λ x. (f.entries x, g.entries x) }
-
-abbrev pub by_way : {J K L : Sorts} → Mapping J K → Mapping K L → Mapping J L
-by_way f g = record { tree = λ x. g.tree (f.tree x); note = λ x. g.note (f.note x); lets = λ x. g.lets (f.lets x); chunks = λ x. g.chunks (f.chunks x); items = λ x. g.items (f.items x); alternatives = λ x. g.alternatives (f.alternatives x); fields = λ x. g.fields (f.fields x); entry = λ x. g.entry (f.entry x); entries = λ x. g.entries (f.entries x) }

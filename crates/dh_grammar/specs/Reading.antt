@@ -2,7 +2,8 @@
 use Rattle.std.specs.Prelude.{ℕ, Bool, true, false, not, nat_lt, ◌||◌, if◌then◌else◌, List, [], ◌∷◌}
 use Rattle.dh_syntax.specs.declared.tokens.Token.{Token}
 use Rattle.dh_syntax.specs.Text.Spelling.{most_open}
-use Rattle.dh_grammar.specs.Machine.{Sorts, Making, State, done, stopped, after, gap_at, depth_at}
+use Rattle.dh_grammar.specs.Making.{Sorts, Making}
+use Rattle.dh_grammar.specs.Machine.{State, done, stopped, after, gap_at, depth_at}
 
 -- what is read, or why not
 pub data Outcome (A : Type 0) : Type 0 where

@@ -4,8 +4,8 @@ use Rattle.dh_syntax.specs.Text.Derivation.{key_label, Derivation}
 use Rattle.dh_syntax.specs.Text.Derived.{binds, is_special, field_labels, alternative_labels}
 use Rattle.dh_syntax.specs.Expressions.Levels.{level_of}
 use Rattle.dh_syntax.specs.Expressions.Tree.{Name}
-use Rattle.dh_grammar.specs.Machine.{Sorts, Making}
-use Rattle.dh_grammar.specs.Mapping.{Mapping}
+use Rattle.dh_grammar.specs.Making.{Sorts, Making}
+use Rattle.dh_grammar.specs.Inside.Mapping.{Mapping}
 use Rattle.dh_grammar.specs.Spans.{Spans, no_spans, span, Over, marks, and, three, node, leaf, behind, before, between, quantified, if_there, keys_len, digest_len, mode_len, index_len, piece_len, Stand, Labelled, in_order, add_row, no_rows, mark_rows, stands_in_order, no_stands, mark_stands, add_stand, alone_stand, given_stand, Pendings, no_pendings, add_pending, with_body, stretches, note_stretches, lets_stretches, chunks_stretches, items_stretches, alternatives_stretches, fields_stretches, entry_stretches, entries_stretches}
 use Rattle.dh_grammar.specs.Trees.{tree_sorts}
 

@@ -1,5 +1,5 @@
 -- The machine over expressions that puts a stub where one would nest too deep.
-use Rattle.std.specs.Prelude.{ℕ, suc, max, Bool, true, false, ◌==◌, nat_le, if◌then◌else◌, List, [], ◌∷◌, ◌++◌, map, Option, Some, None, codes}
+use Rattle.std.specs.Prelude.{ℕ, suc, max, Bool, true, false, ◌==◌, nat_le, if◌then◌else◌, List, [], ◌∷◌, ◌++◌, Option, Some, None, codes}
 use Rattle.dh_syntax.specs.declared.expressions.Op.{Op}
 use Rattle.dh_syntax.specs.declared.expressions.Op.TheVariants as ops
 use Rattle.dh_syntax.specs.declared.operators.BinOp.TheVariants as binary
@@ -7,12 +7,10 @@ use Rattle.dh_syntax.specs.Text.Derivation.{NameToken, name_label, key_label, Ke
 use Rattle.dh_syntax.specs.Expressions.Levels.{level_of}
 use Rattle.dh_syntax.specs.Text.Meaning.{put, insert, names, values, variable_term, location, sorted, piece_of, text_pieces}
 use Rattle.dh_syntax.specs.declared.expressions.Alt.{Alt}
-use Rattle.dh_syntax.specs.Expressions.Nesting.{nesting}
 use Rattle.dh_syntax.specs.Expressions.Spellable.{most_nesting}
 use Rattle.dh_syntax.specs.Expressions.Tree.{Row, Node, end, kid, Name, Var, Term}
-use Rattle.dh_grammar.specs.Machine.{Sorts, Making}
-use Rattle.dh_grammar.specs.Mapping.{Mapping, option_map}
-use Rattle.dh_grammar.specs.Terms.{Operand, Binding, term_sorts, and_part, so_far}
+use Rattle.dh_grammar.specs.Making.{Sorts, Making}
+use Rattle.dh_grammar.specs.Inside.Terms.{and_part, so_far}
 
 -- an expression and how deep it nests; a stub where that is more than 500
 pub record Part : Type 0 where
@@ -41,9 +39,6 @@ stub = record { expression = Node (ops.Bool true) end; nests = suc most_nesting 
 
 abbrev pub kept : Term → ℕ → Part
 kept e n = if nat_le n most_nesting then record { expression = e; nests = n } else stub
-
-abbrev pub cut : Term → Part
-cut e = kept e (nesting e)
 
 -- parts, each under at most one binder
 abbrev pub Parts : Type 0
@@ -177,28 +172,4 @@ stubs = record {
   alone = λ k. (key_label k, kept (variable_term (key_label k) None) 0);
   given = λ ks v. dotted ks v.part;
   add_entry = λ es e. put joined e (so_far es);
-}
-
--- ---- what the machine over expressions makes, cut
-
-abbrev pub cut_tree : Operand → Kept
-cut_tree x = at x.level (cut x.expression)
-
-abbrev pub cut_binding : Binding → KeptBinding
-cut_binding b = record { name = b.name; annotation = option_map cut b.annotation; value = cut b.value }
-
-abbrev pub labelled : {X Y : Type 0} → (X → Y) → Name × X → Name × Y
-labelled f e = (e.0, f e.1)
-
-abbrev pub cutting : Mapping term_sorts stub_sorts
-cutting = record {
-  tree = cut_tree;
-  note = option_map cut;
-  lets = map cut_binding;
-  chunks = λ cs. record { pieces = cs.pieces; interpolations = map cut cs.interpolations };
-  items = map cut;
-  alternatives = map (labelled (option_map cut));
-  fields = map (labelled cut);
-  entry = labelled cut;
-  entries = map (labelled cut);
 }

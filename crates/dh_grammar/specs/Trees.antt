@@ -7,7 +7,7 @@ use Rattle.dh_syntax.specs.Text.Derivation.{NameToken, Key, Keys, Derivation, la
 use Rattle.dh_syntax.specs.Text.Derived.{binds, field_labels, alternative_labels}
 use Rattle.dh_syntax.specs.Text.Yield.{Written}
 use Rattle.dh_grammar.specs.Machine as machine
-use Rattle.dh_grammar.specs.Machine.{Sorts, Making}
+use Rattle.dh_grammar.specs.Making.{Sorts, Making}
 
 abbrev pub tree_sorts : Sorts
 tree_sorts = record { tree = Derivation; note = Note; lets = Lets; chunks = Chunks; items = Items; alternatives = Alternatives; fields = Fields; entry = Entry; entries = Entries }

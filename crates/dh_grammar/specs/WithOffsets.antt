@@ -6,7 +6,8 @@ use Rattle.dh_syntax.specs.Text.Offsets.{SpellsWith, location_ends}
 use Rattle.dh_syntax.specs.Expressions.Spellable.{most_nesting}
 use Rattle.dh_syntax.specs.Text.Spelling.{IsText}
 use Rattle.dh_grammar.specs.Both.{both_sorts, both}
-use Rattle.dh_grammar.specs.Machine.{Making, need}
+use Rattle.dh_grammar.specs.Making.{Making}
+use Rattle.dh_grammar.specs.Machine.{need}
 use Rattle.dh_grammar.specs.Picks.{pick_sorts, picking, chosen}
 use Rattle.dh_grammar.specs.Reading.{accepted, reading}
 use Rattle.dh_grammar.specs.Stubs.{stub_sorts, stubs, Kept}

@@ -1,4 +1,4 @@
-use Rattle.dh_grammar.proofs.Deep as proof
+use Rattle.dh_grammar.proofs.Results.Deep as proof
 use Rattle.dh_grammar.proofs.laws.deep_exactly.Goals as goal
 
 pub returns : goal.returns

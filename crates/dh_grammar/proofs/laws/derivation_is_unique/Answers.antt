@@ -1,4 +1,4 @@
-use Rattle.dh_grammar.proofs.MachineLaws as proof
+use Rattle.dh_grammar.proofs.Grammar.MachineLaws as proof
 use Rattle.dh_grammar.proofs.laws.derivation_is_unique.Goals as goal
 
 pub returns : goal.returns

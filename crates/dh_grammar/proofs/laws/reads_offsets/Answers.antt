@@ -1,4 +1,4 @@
-use Rattle.dh_grammar.proofs.WithOffsets as proof
+use Rattle.dh_grammar.proofs.Results.WithOffsets as proof
 use Rattle.dh_grammar.proofs.laws.reads_offsets.Goals as goal
 
 pub returns : goal.returns

@@ -1,4 +1,4 @@
-use Rattle.dh_grammar.proofs.Answering as proof
+use Rattle.dh_grammar.proofs.Results.Answering as proof
 use Rattle.dh_grammar.proofs.laws.spells_values.Goals as goal
 
 pub returns : goal.returns

@@ -1,4 +1,4 @@
-use Rattle.dh_grammar.proofs.Deep as proof
+use Rattle.dh_grammar.proofs.Results.Deep as proof
 use Rattle.dh_grammar.proofs.laws.stubs_spread.Goals as goal
 
 pub returns : goal.returns
