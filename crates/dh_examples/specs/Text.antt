@@ -15,4 +15,5 @@ pub mod LiteralsExamples
 pub mod PrintedExamples
 pub mod PrintedExamplesBrackets
 pub mod PrintedOperatorExamples
+pub mod SpansExamples
 pub mod SpellingExamples

@@ -8,8 +8,6 @@ pub mod Parsed
 pub mod Picks
 pub mod Reading
 pub mod Running
-pub mod Spanning
-pub mod Spans
 pub mod Stubs
 pub mod Trees
 pub mod Values
