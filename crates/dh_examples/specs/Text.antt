@@ -12,6 +12,7 @@ pub mod LexExamplesFaults
 pub mod LexExamplesLocations
 pub mod LexExamplesTexts
 pub mod LiteralsExamples
+pub mod ParsedExamples
 pub mod PrintedExamples
 pub mod PrintedExamplesBrackets
 pub mod PrintedOperatorExamples

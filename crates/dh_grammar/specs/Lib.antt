@@ -1,5 +1,5 @@
-pub mod Answers
 pub mod Both
+pub mod Depths
 pub mod Inside
 pub mod Laws
 pub mod Machine

@@ -9,7 +9,7 @@ use Rattle.dh_syntax.specs.Text.Derived.{derived}
 use Rattle.dh_syntax.specs.Text.Spelling.{AreTokens, Derives, IsPrefixOfDerived, OpensTooMany, opens_too_many}
 use Rattle.dh_syntax.specs.Text.Yield.{Written, token, free, yield, text_yield}
 use Rattle.dh_grammar.specs.Inside.Before.{Text, before}
-use Rattle.dh_grammar.specs.Laws.{Accepts, DerivationIsUnique, NoDeadStates, KnowsDepths, KnowsNesting}
+use Rattle.dh_grammar.specs.Laws.Derivations.{Accepts, DerivationIsUnique, NoDeadStates, KnowsDepths, KnowsNesting}
 use Rattle.dh_grammar.specs.Machine.{need, have, wait, done, stopped}
 use Rattle.dh_grammar.specs.Trees.{State, after, close, gap_at, written}
 use Rattle.dh_grammar.specs.Running.{IsRunning, run, runs, step, steps, spelled, runs_on}

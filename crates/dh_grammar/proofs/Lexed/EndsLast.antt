@@ -7,12 +7,13 @@ use Rattle.dh_syntax.specs.Text.Lexing.{LexFault, Place, Outside, Interpolated, 
 use Rattle.dh_syntax.specs.Text.Spelling.{most_open}
 use Rattle.dh_syntax.proofs.LexingLaws.{lex-from_start}
 use Rattle.dh_grammar.specs.Machine.{need, have, wait, done, stopped}
-use Rattle.dh_grammar.specs.Laws.{is_running, Verdict, unfinished, refused, nested, verdict, verdict_of}
+use Rattle.dh_grammar.specs.Reading.{runs_still, Outcome, unfinished, refused, nested, reading, outcome_of}
 use Rattle.dh_grammar.specs.Running.{step}
-use Rattle.dh_grammar.specs.Trees as trees
-use Rattle.dh_grammar.specs.Trees.{after, gap_at, depth_at}
+use Rattle.dh_grammar.specs.Trees.{trees, after, gap_at, depth_at}
 use Rattle.dh_grammar.proofs.Results.Ending.{IsEnded, end_ends}
 use Rattle.dh_grammar.proofs.TruthValues.{by_test}
+use Rattle.dh_syntax.specs.Text.Derivation.{Derivation}
+use Rattle.dh_grammar.specs.Trees as trees
 
 abbrev pub EndsLast : List Token → Type 0
 EndsLast [] = ⊥
@@ -49,13 +50,13 @@ ends_from s zero at (b ∷ bs) = ends_by (step_at s at (form_at s.before s.place
 pub ends_last : (bs : List ℕ) (ts : List Token) → lex bs ≡ Ok ts → EndsLast ts
 ends_last bs ts e = subst Ends (sym (lex-from_start bs) ∙ e) (ends_from start 0 0 bs)
 
--- ---- a verdict is reached
+-- ---- an outcome is reached
 
-abbrev pub IsReached : Verdict → Type 0
+abbrev pub IsReached : Outcome Derivation → Type 0
 IsReached unfinished = ⊥
 IsReached _ = ⊤
 
-reached_end : (s : trees.State) → IsEnded s → is_running s ≡ true → IsReached (verdict_of s)
+reached_end : (s : trees.State) → IsEnded s → runs_still s ≡ true → IsReached (outcome_of s)
 reached_end (done d) e r = tt
 reached_end stopped e r = cc
 reached_end (need st) e r = e
@@ -65,11 +66,11 @@ reached_end (wait w st) e r = e
 ended_step : (s : trees.State) (t : Token) → t.kind ≡ kinds.End → IsEnded (step s t)
 ended_step s t e = by_test IsEnded (not (gap_at s t.kind) || t.gap) (after t.kind s) stopped (λ b. subst (λ k. IsEnded (after k s)) (sym e) (end_ends s)) (λ b. tt)
 
-pub reached : (ts : List Token) (s : trees.State) → EndsLast ts → IsReached (verdict s ts)
+pub reached : (ts : List Token) (s : trees.State) → EndsLast ts → IsReached (reading trees s ts)
 reached [] s h = absurd h
 reached (t ∷ []) s h =
-    by_test IsReached (is_running (step s t)) (if nat_lt most_open (depth_at s t.kind) then nested else verdict_of (step s t)) (refused t.from)
-    (λ r. by_test IsReached (nat_lt most_open (depth_at s t.kind)) nested (verdict_of (step s t)) (λ b. tt) (λ b. reached_end (step s t) (ended_step s t h) r)) (λ r. tt)
+    by_test IsReached (runs_still (step s t)) (if nat_lt most_open (depth_at s t.kind) then nested else outcome_of (step s t)) (refused t.from)
+    (λ r. by_test IsReached (nat_lt most_open (depth_at s t.kind)) nested (outcome_of (step s t)) (λ b. tt) (λ b. reached_end (step s t) (ended_step s t h) r)) (λ r. tt)
 reached (t ∷ u ∷ ts) s h =
-    by_test IsReached (is_running (step s t)) (if nat_lt most_open (depth_at s t.kind) then nested else verdict (step s t) (u ∷ ts)) (refused t.from)
-    (λ r. by_test IsReached (nat_lt most_open (depth_at s t.kind)) nested (verdict (step s t) (u ∷ ts)) (λ b. tt) (λ b. reached (u ∷ ts) (step s t) h)) (λ r. tt)
+    by_test IsReached (runs_still (step s t)) (if nat_lt most_open (depth_at s t.kind) then nested else reading trees (step s t) (u ∷ ts)) (refused t.from)
+    (λ r. by_test IsReached (nat_lt most_open (depth_at s t.kind)) nested (reading trees (step s t) (u ∷ ts)) (λ b. tt) (λ b. reached (u ∷ ts) (step s t) h)) (λ r. tt)

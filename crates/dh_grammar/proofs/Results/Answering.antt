@@ -1,6 +1,6 @@
 -- The reading of a text answers one thing.
 use Rattle.std.proofs.Common.{subst}
-use Rattle.dh_grammar.specs.Answers.{Parses, ParsesOnce, SpellsValues}
+use Rattle.dh_grammar.specs.Laws.Texts.{Parses, ParsesOnce, SpellsValues}
 use Rattle.dh_grammar.specs.Values.{HasValues}
 use Rattle.dh_grammar.proofs.Lexed.LexedTokens.{lexed_fair, means_spellable}
 use Rattle.dh_grammar.proofs.Results.Parsing as parsing

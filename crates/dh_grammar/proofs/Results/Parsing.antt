@@ -1,6 +1,6 @@
 -- Every text has one answer.
-use Rattle.std.proofs.Common.{◌≡◌, ℕ, ◌≤◌, ◌<◌, Bool, true, false, List, [], ◌∷◌, refl, sym, ◌∙◌, ap, subst, inl, inr, arith, le-leb, leb-true, leb-false}
-use Rattle.std.specs.Prelude.{IsFalse, nat_le, nat_lt, if◌then◌else◌, length, Result, Ok, Err}
+use Rattle.std.proofs.Common.{◌≡◌, ℕ, ◌≤◌, ◌<◌, Bool, true, false, List, [], refl, sym, ◌∙◌, ap, subst, inl, inr, arith, le-leb, leb-true, leb-false}
+use Rattle.std.specs.Prelude.{IsFalse, nat_le, if◌then◌else◌, length, Result, Ok, Err}
 use Rattle.std.specs.Str.{is_utf8}
 use Rattle.std.specs.Str.Lossy.{utf8_valid_len}
 use Rattle.std.proofs.lemmas.Str.{IsUtf8-from_is_utf8, is_utf8-from_IsUtf8}
@@ -12,82 +12,48 @@ use Rattle.dh_syntax.specs.Text.Lexing.{LexFault, Bad, Wide, Out, lex}
 use Rattle.dh_syntax.specs.Text.Meaning.{meaning}
 use Rattle.dh_syntax.specs.Expressions.Nesting.{nesting}
 use Rattle.dh_syntax.specs.Expressions.Spellable.{IsSpellable, most_nesting}
-use Rattle.dh_syntax.specs.Text.Spelling.{most_bytes, most_open, IsText, Derives, ParsesTo, opens_too_many}
+use Rattle.dh_syntax.specs.Text.Spelling.{most_bytes, IsText, Derives, ParsesTo, opens_too_many}
 use Rattle.dh_syntax.specs.Expressions.Tree.{Term}
 use Rattle.dh_syntax.specs.Text.Yield.{text_yield}
 use Rattle.dh_grammar.specs.Inside.Forget.{ftree}
-use Rattle.dh_grammar.specs.Laws.{is_running, Verdict, verdict, verdict_of, VerdictIsRight}
-use Rattle.dh_grammar.specs.Laws as laws
-use Rattle.dh_grammar.specs.Machine.{need, have, wait, done, stopped}
+use Rattle.dh_grammar.specs.Reading.{Outcome, reading, accepted, unfinished, refused, nested, outcome_map}
+use Rattle.dh_grammar.specs.Laws.Derivations.{OutcomeIsRight}
+use Rattle.dh_grammar.specs.Machine.{need}
 use Rattle.dh_grammar.specs.Parsed.{answered, parsed_tokens, parsed_lex, parsed}
-use Rattle.dh_grammar.specs.Reading.{Outcome, accepted, unfinished, refused, nested, outcome_map, runs_still, reading}
-use Rattle.dh_grammar.specs.Running.{step}
 use Rattle.dh_grammar.specs.Stubs.{Part}
 use Rattle.dh_grammar.specs.Inside.Cut.{cut, cut_tree}
-use Rattle.dh_grammar.specs.Trees.{State, trees, depth_at}
+use Rattle.dh_grammar.specs.Trees.{trees}
 use Rattle.dh_grammar.proofs.Maps.Cutting.{Cut, few, many, is_cut, cuts}
 use Rattle.dh_grammar.proofs.Lexed.EndsLast.{IsReached, reached, ends_last}
 use Rattle.dh_grammar.proofs.Maps.Forgetting.{forgets}
-use Rattle.dh_grammar.proofs.Results.OneVerdict.{one_verdict}
+use Rattle.dh_grammar.proofs.Results.OneOutcome.{one_outcome}
 use Rattle.dh_grammar.proofs.Maps.Readings.{carry_reading}
 use Rattle.dh_grammar.proofs.TruthValues.{by_test}
-use Rattle.dh_grammar.proofs.Grammar.Verdicts.{answers}
+use Rattle.dh_grammar.proofs.Grammar.Outcomes.{answers}
 
--- ---- the machine with stubs, and the verdict
+-- ---- the machine with stubs, and the one over trees
 
-abbrev pub as_outcome : Verdict → Outcome Derivation
-as_outcome (laws.accepted d) = accepted d
-as_outcome laws.unfinished = unfinished
-as_outcome (laws.refused n) = refused n
-as_outcome laws.nested = nested
-
-same_if : {A B : Type 0} (g : A → B) (b : Bool) (x y : A) → g (if b then x else y) ≡ (if b then g x else g y)
-same_if g true x y = refl
-same_if g false x y = refl
-
-end_reads : (s : State) → reading trees s [] ≡ as_outcome (verdict_of s)
-end_reads (done d) = refl
-end_reads (need st) = refl
-end_reads (have st x) = refl
-end_reads (wait w st) = refl
-end_reads stopped = refl
-
-still : (s : State) (x y : Outcome Derivation) → (if runs_still s then x else y) ≡ (if is_running s then x else y)
-still stopped x y = refl
-still (done d) x y = refl
-still (need st) x y = refl
-still (have st z) x y = refl
-still (wait w st) x y = refl
-
-pub verdict_reads : (ts : List Token) (s : State) → reading trees s ts ≡ as_outcome (verdict s ts)
-verdict_reads [] s = end_reads s
-verdict_reads (t ∷ ts) s =
-    still (step s t) _ _
-    ∙ ap (λ r. if is_running (step s t) then (if nat_lt most_open (depth_at s t.kind) then nested else r) else refused t.from) (verdict_reads ts (step s t))
-    ∙ ap (λ r. if is_running (step s t) then r else refused t.from) (sym (same_if as_outcome (nat_lt most_open (depth_at s t.kind)) laws.nested (verdict (step s t) ts)))
-    ∙ sym (same_if as_outcome (is_running (step s t)) (if nat_lt most_open (depth_at s t.kind) then laws.nested else verdict (step s t) ts) (laws.refused t.from))
-
--- the answer by a verdict
+-- the answer by an outcome
 abbrev answered_part : Part → Result Term ParseFault
 answered_part p = if nat_le p.nests most_nesting then Ok p.expression else Err faults.TooNested
 
-abbrev said : Verdict → Result Term ParseFault
-said (laws.accepted d) = answered_part (cut (meaning d))
-said laws.unfinished = Err faults.Memory
-said (laws.refused n) = Err (faults.Syntax n)
-said laws.nested = Err faults.TooNested
+abbrev said : Outcome Derivation → Result Term ParseFault
+said (accepted d) = answered_part (cut (meaning d))
+said unfinished = Err faults.Memory
+said (refused n) = Err (faults.Syntax n)
+said nested = Err faults.TooNested
 
-said_is : (v : Verdict) → answered (outcome_map cut_tree (outcome_map ftree (as_outcome v))) ≡ said v
-said_is (laws.accepted d) = refl
-said_is laws.unfinished = refl
-said_is (laws.refused n) = refl
-said_is laws.nested = refl
+said_is : (v : Outcome Derivation) → answered (outcome_map cut_tree (outcome_map ftree v)) ≡ said v
+said_is (accepted d) = refl
+said_is unfinished = refl
+said_is (refused n) = refl
+said_is nested = refl
 
 -- what the machine with stubs says of tokens is what the one over trees says, with a leaf where an operand nests too deep
-pub tokens_said : (ts : List Token) → parsed_tokens ts ≡ said (verdict (need []) ts)
+pub tokens_said : (ts : List Token) → parsed_tokens ts ≡ said (reading trees (need []) ts)
 tokens_said ts =
-    ap answered (carry_reading cuts ts (need []) ∙ ap (outcome_map cut_tree) (carry_reading forgets ts (need []) ∙ ap (outcome_map ftree) (verdict_reads ts (need []))))
-    ∙ said_is (verdict (need []) ts)
+    ap answered (carry_reading cuts ts (need []) ∙ ap (outcome_map cut_tree) (carry_reading forgets ts (need [])))
+    ∙ said_is (reading trees (need []) ts)
 
 -- ---- some answer
 
@@ -104,18 +70,18 @@ part_parses bytes ts d i e m h o (few k c) =
 part_parses bytes ts d i e m h o (many k c) =
     subst (λ p. ParsesTo bytes (answered_part p)) (sym c) (i, ts, e, inr (record { tree = d; derives = h; few_open = o; deep = k }))
 
-said_parses : (bytes : List ℕ) (ts : List Token) (v : Verdict) → IsText bytes → lex bytes ≡ Ok ts → MeansSpellable ts → VerdictIsRight ts v → IsReached v → ParsesTo bytes (said v)
-said_parses bytes ts (laws.accepted d) i e m h r = part_parses bytes ts d i e m h.0 h.1 (is_cut (meaning d))
-said_parses bytes ts (laws.refused n) i e m h r = (i, inr (ts, e, h))
-said_parses bytes ts laws.nested i e m h r = (i, ts, e, inl h)
-said_parses bytes ts laws.unfinished i e m h r = absurd r
+said_parses : (bytes : List ℕ) (ts : List Token) (v : Outcome Derivation) → IsText bytes → lex bytes ≡ Ok ts → MeansSpellable ts → OutcomeIsRight ts v → IsReached v → ParsesTo bytes (said v)
+said_parses bytes ts (accepted d) i e m h r = part_parses bytes ts d i e m h.0 h.1 (is_cut (meaning d))
+said_parses bytes ts (refused n) i e m h r = (i, inr (ts, e, h))
+said_parses bytes ts nested i e m h r = (i, ts, e, inl h)
+said_parses bytes ts unfinished i e m h r = absurd r
 
 lex_parses : (bytes : List ℕ) (l : Result (List Token) LexFault) → IsText bytes → lex bytes ≡ l → ((ts : List Token) → l ≡ Ok ts → MeansSpellable ts) → ParsesTo bytes (parsed_lex l)
 lex_parses bytes (Err (Bad n)) i e m = (i, inl e)
 lex_parses bytes (Err (Wide n)) i e m = (i, e)
 lex_parses bytes (Err (Out n)) i e m = (i, e)
 lex_parses bytes (Ok ts) i e m =
-    subst (ParsesTo bytes) (sym (tokens_said ts)) (said_parses bytes ts (verdict (need []) ts) i e (m ts refl) (answers ts) (reached ts (need []) (ends_last bytes ts e)))
+    subst (ParsesTo bytes) (sym (tokens_said ts)) (said_parses bytes ts (reading trees (need []) ts) i e (m ts refl) (answers ts) (reached ts (need []) (ends_last bytes ts e)))
 
 not_both : (b : Bool) → b ≡ true → b ≡ false → ⊥
 not_both b p q = let e = sym p ∙ q in cc
@@ -136,8 +102,8 @@ text_is bytes i =
     ap (λ b. if b then (if is_utf8 bytes then parsed_lex (lex bytes) else Err (faults.NotUtf8 (utf8_valid_len bytes))) else Err faults.TooLarge) (le-leb (length bytes) most_bytes i.0)
     ∙ ap (λ b. if b then parsed_lex (lex bytes) else Err (faults.NotUtf8 (utf8_valid_len bytes))) (is_utf8-from_IsUtf8 bytes i.1)
 
-verdict_is : (bytes : List ℕ) (ts : List Token) (v : Verdict) → IsText bytes → lex bytes ≡ Ok ts → IsReached v → VerdictIsRight ts v → parsed bytes ≡ said v
-verdict_is bytes ts v i e r h = text_is bytes i ∙ ap parsed_lex e ∙ tokens_said ts ∙ ap said (one_verdict ts v r h)
+outcome_is : (bytes : List ℕ) (ts : List Token) (v : Outcome Derivation) → IsText bytes → lex bytes ≡ Ok ts → IsReached v → OutcomeIsRight ts v → parsed bytes ≡ said v
+outcome_is bytes ts v i e r h = text_is bytes i ∙ ap parsed_lex e ∙ tokens_said ts ∙ ap said (one_outcome ts v r h)
 
 kept_is : (e : Term) → nesting e ≤ most_nesting → Cut e → answered_part (cut e) ≡ Ok e
 kept_is e h (few k c) = ap answered_part c ∙ by_test (λ r. r ≡ Ok e) (nat_le (nesting e) most_nesting) (Ok e) (Err faults.TooNested) (λ b. refl) (λ b. absurd (let g = leb-false (nesting e) most_nesting b in omega arith))
@@ -151,7 +117,7 @@ cut_is e h (many k c) = ap answered_part c
 pub parses_only : (bytes : List ℕ) (r : Result Term ParseFault) → ParsesTo bytes r → parsed bytes ≡ r
 parses_only bytes (Ok e) h =
     let deep : nesting e ≤ most_nesting = h.spellable.1 in
-    verdict_is bytes h.tokens (laws.accepted h.tree) h.is_text h.lexed tt (h.derives, h.few_open)
+    outcome_is bytes h.tokens (accepted h.tree) h.is_text h.lexed tt (h.derives, h.few_open)
     ∙ kept_is (meaning h.tree) (subst (λ x. nesting x ≤ most_nesting) (sym h.means) deep) (is_cut (meaning h.tree))
     ∙ ap (λ x. Ok x) h.means
 parses_only bytes (Err faults.TooLarge) h =
@@ -163,12 +129,12 @@ parses_only bytes (Err (faults.NotUtf8 n)) h =
     (λ u. absurd (h.1 (IsUtf8-from_is_utf8 bytes u))) (λ u. refl)
     ∙ ap (λ k. Err (faults.NotUtf8 k)) (sym h.2)
 parses_only bytes (Err (faults.Syntax n)) (i, inl e) = text_is bytes i ∙ ap parsed_lex e
-parses_only bytes (Err (faults.Syntax n)) (i, inr h) = verdict_is bytes h.0 (laws.refused n) i h.1 tt h.2
+parses_only bytes (Err (faults.Syntax n)) (i, inr h) = outcome_is bytes h.0 (refused n) i h.1 tt h.2
 parses_only bytes (Err (faults.Wide n)) h = text_is bytes h.0 ∙ ap parsed_lex h.1
 parses_only bytes (Err (faults.Out n)) h = text_is bytes h.0 ∙ ap parsed_lex h.1
-parses_only bytes (Err faults.TooNested) (i, ts, e, inl h) = verdict_is bytes ts laws.nested i e tt h
+parses_only bytes (Err faults.TooNested) (i, ts, e, inl h) = outcome_is bytes ts nested i e tt h
 parses_only bytes (Err faults.TooNested) (i, ts, e, inr h) =
-    verdict_is bytes ts (laws.accepted h.tree) i e tt (h.derives, h.few_open) ∙ cut_is (meaning h.tree) h.deep (is_cut (meaning h.tree))
+    outcome_is bytes ts (accepted h.tree) i e tt (h.derives, h.few_open) ∙ cut_is (meaning h.tree) h.deep (is_cut (meaning h.tree))
 parses_only bytes (Err faults.Memory) h = absurd h
 
 pub parses_once : (bytes : List ℕ) (q r : Result Term ParseFault) → ParsesTo bytes q → ParsesTo bytes r → q ≡ r

@@ -1,5 +1,0 @@
-use Rattle.dh_grammar.proofs.Results.Deep as proof
-use Rattle.dh_grammar.proofs.laws.deep_exactly.Goals as goal
-
-pub returns : goal.returns
-returns c = proof.deep_exactly

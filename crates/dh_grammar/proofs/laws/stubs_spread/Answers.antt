@@ -1,5 +1,0 @@
-use Rattle.dh_grammar.proofs.Results.Deep as proof
-use Rattle.dh_grammar.proofs.laws.stubs_spread.Goals as goal
-
-pub returns : goal.returns
-returns c = proof.stubs_spread
