@@ -99,8 +99,8 @@ brackets_before zero ts = ts
 brackets_before (suc n) ts = token_at 7 (kinds.Mark BracketOpen) ∷ brackets_before n ts
 
 -- 500 times `[` and `]`: the last token stands where 500 expressions are open, so the next is the first fault
-not_nested : reading trees (need []) (brackets_before 500 (token_at 8 (kinds.Mark BracketClose) ∷ token_at 9 (kinds.Mark ParenClose) ∷ [])) ≡ refused 9
+not_nested : reading stubs (need []) (brackets_before 500 (token_at 8 (kinds.Mark BracketClose) ∷ token_at 9 (kinds.Mark ParenClose) ∷ [])) ≡ refused 9
 not_nested = refl
 
-too_nested : reading trees (need []) (brackets_before 501 []) ≡ nested
+too_nested : reading stubs (need []) (brackets_before 501 []) ≡ nested
 too_nested = refl
