@@ -1,0 +1,7 @@
+pub mod Before
+pub mod Cut
+pub mod Forget
+pub mod Mapping
+pub mod Terms
+pub mod TreePicks
+pub mod Valid
