@@ -4,6 +4,7 @@ pub mod Contractions
 pub mod Cores
 pub mod FreeIndices
 pub mod FreeShifts
+pub mod KeyOrder
 pub mod MovedCases
 pub mod MovedFields
 pub mod MovedPlaces

@@ -4,7 +4,7 @@ use Rattle.dh_syntax.specs.Normalising.ContractLogic.{if_then_else, disjunction,
 use Rattle.dh_syntax.specs.Normalising.Contraction.{on}
 use Rattle.dh_syntax.specs.Normalising.ContractNumbers.{natural_literal, sum, product}
 use Rattle.dh_syntax.specs.Names.Moves.{Move, moved}
-use Rattle.dh_syntax.specs.Text.Numerals.{natural_fits}
+use Rattle.dh_syntax.specs.Limits.{natural_fits}
 use Rattle.dh_syntax.specs.Expressions.Tree.{Tree}
 use Rattle.dh_syntax.specs.Expressions.Views.{as_natural}
 use Rattle.dh_laws.proofs.MovedCases.{Commutes, or-carried, when-carried, from-carried, within-carried, on-same-carried}

@@ -1,5 +1,7 @@
 pub mod Alpha
+pub mod BuiltinNames
 pub mod Indices
+pub mod KeyOrder
 pub mod LabelOrder
 pub mod Nameless
 pub mod NamelessAnswers

@@ -7,7 +7,9 @@ use Rattle.dh_syntax.specs.declared.locations.Mode.TheVariants as modes
 use Rattle.dh_syntax.specs.declared.locations.Url.{Url}
 use Rattle.dh_examples.specs.ExampleNodes.{x_, variable, x, num, app, some, lam, typed, untyped}
 use Rattle.dh_syntax.specs.Expressions.Nesting.{nesting}
-use Rattle.dh_syntax.specs.Expressions.Spellable.{most_nesting, most_index, is_label, is_component, is_environment, is_segment, is_query, is_host, location_spellable, op_spellable, names_spellable}
+use Rattle.dh_syntax.specs.Expressions.Spellable.{is_label, is_component, is_environment, is_segment, is_query, is_host, location_spellable, op_spellable, names_spellable}
+use Rattle.dh_syntax.specs.Limits.{most_nesting}
+use Rattle.dh_syntax.specs.Limits.{most_index}
 use Rattle.dh_syntax.specs.Expressions.Tree.{Node, end, Name}
 
 abbrev AllPass : (List ℕ → Bool) → List String → Type 0

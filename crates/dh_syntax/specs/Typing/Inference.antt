@@ -5,6 +5,7 @@
 -- limit. The units and the limits are this project's own.
 use Rattle.std.specs.Prelude.{◌≡◌, ◌⊎◌, ℕ, List, [], ◌∷◌, Option, Some, None}
 use Rattle.dh_syntax.specs.declared.faults.NormFault.{NormFault}
+use Rattle.dh_syntax.specs.Limits.{whole_purse}
 use Rattle.dh_syntax.specs.Normalising.Heads.{Lang, Whole, Answer, Found, Wide, Deep, Over, run}
 use Rattle.dh_syntax.specs.Normalising.Normal.{endless, Normalises, IsLicensed, plain_answer}
 use Rattle.dh_syntax.specs.Typing.TypeRules.{Rule}
@@ -86,10 +87,6 @@ module _ {T : Type 0} where
   judged normal purse units (FromPart k m next) = after_part k (judged normal purse units m) (λ t left. judged normal purse left (next t))
   judged normal purse units (Aside m next) = after_aside (judged normal purse purse m) (λ t. judged normal purse units (next t))
   judged normal purse units (Instead m rule) = instead (judged normal purse units m) rule
-
--- the units that the typing of an item has, and each typing aside
-abbrev pub whole_purse : ℕ
-whole_purse = 16_777_216
 
 module _ {T : Type 0} (L : Lang T) where
   -- ---- without an end by height or nesting

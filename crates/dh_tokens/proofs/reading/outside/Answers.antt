@@ -1,5 +1,5 @@
 use Rattle.std.proofs.Common.{ap, sym, ◌∙◌}
-use Rattle.dh_syntax.specs.Lexing.{Outside, form_at}
+use Rattle.dh_syntax.specs.Text.Lexing.{Outside, form_at}
 use Rattle.dh_tokens.specs.declared.states.Before.TheVariants as befores
 use Rattle.dh_tokens.specs.Forms.{form_of}
 use Rattle.dh_tokens.specs.LongestForms.{front_form}
