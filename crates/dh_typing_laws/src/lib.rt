@@ -1,0 +1,2 @@
+//! Laws of typing.
+#![tactic(auto)]
