@@ -1,3 +1,4 @@
+pub mod OneTyping
 pub mod TypingContract
 pub mod TypingContractExamples
 pub mod TypingKeeping
@@ -10,3 +11,4 @@ pub mod TypingsKeptExamples
 pub mod TypingsMoved
 pub mod TypingsNamed
 pub mod TypingsRenamed
+pub mod Weakenings

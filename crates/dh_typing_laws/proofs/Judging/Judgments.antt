@@ -7,17 +7,8 @@ use Rattle.dh_syntax.specs.Names.Moves.{Move, moved}
 use Rattle.dh_syntax.specs.Expressions.Tree.{Tree}
 use Rattle.dh_syntax.specs.Typing.TypeRules.{Rule}
 use Rattle.dh_laws.specs.NamelessAnswers.{answer_map}
+use Rattle.dh_typing_laws.specs.Judgments.{judgment_map}
 use Rattle.dh_typing_laws.proofs.Ruling.Typings.{Courses}
-
--- the same judgment, with the function on its type
-abbrev pub judgment_map : {S T : Type 0} → (S → T) → Judgment S → Judgment T
-judgment_map f (Has t left) = Has (f t) left
-judgment_map f (Ill path rule) = Ill path rule
-judgment_map f IsWide = IsWide
-judgment_map f IsDeep = IsDeep
-judgment_map f IsOver = IsOver
-judgment_map f IsOverAside = IsOverAside
-judgment_map f IsShallow = IsShallow
 
 module _ {S T : Type 0} (f : S → T) where
   after_normal-map : (a' : Answer T) (a : Answer S) (x : T → ℕ → Judgment T) (y : S → ℕ → Judgment S) → a' ≡ answer_map f a

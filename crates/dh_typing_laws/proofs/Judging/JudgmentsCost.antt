@@ -2,11 +2,10 @@
 use Rattle.std.specs.Prelude.{◌≡◌, ℕ, ◌+◌, Option, Some, None, refl}
 use Rattle.std.proofs.Common.{ap, arith, subst as along}
 use Rattle.dh_syntax.specs.Normalising.Heads.{Lang, Whole, Answer, Found, Wide, Deep, Over, run}
-use Rattle.dh_syntax.specs.Typing.Inference.{Inference, Gives, Fails, Deeper, FromNormal, FromPart, Aside, Instead, Judgment, Has, Ill, IsWide, IsDeep, IsOver, IsOverAside, IsShallow, after_normal, after_part, after_aside, instead, ComesTo}
+use Rattle.dh_syntax.specs.Typing.Inference.{Inference, Gives, Fails, Deeper, FromNormal, FromPart, Aside, Instead, Judgment, Has, Ill, IsWide, IsDeep, IsOver, IsOverAside, IsShallow, after_normal, after_part, after_aside, instead, ComesTo, judged_within}
 use Rattle.dh_syntax.specs.Normalising.Normal.{endless}
 use Rattle.dh_syntax.specs.Typing.TypeRules.{Rule}
 use Rattle.dh_typing_laws.proofs.Judging.JudgmentsLag.{has_type, has_left, normal-then, part-then, aside-type, aside-refused}
-use Rattle.dh_typing_laws.proofs.Judging.JudgmentsSteady.{J}
 use Rattle.dh_laws.proofs.Normalising.RunCosts.{whole_cost_of_run}
 
 module _ {T : Type 0} (L : Lang T) where
@@ -14,8 +13,8 @@ module _ {T : Type 0} (L : Lang T) where
   abbrev pub Costs : ℕ → ℕ → Inference T → T → Type 0
   Costs u l i t = (n : ℕ) × (n + l ≡ u) × ComesTo L n i (Has t 0)
 
-  cost-normal : (h p u l : ℕ) (t e : T) (y : T → Inference T) (a : Answer T) → run (endless L) h Whole u e ≡ a → after_normal a (λ f left. J L h p left (y f)) ≡ Has t l
-      → ((v : T) (k : ℕ) → J L h p k (y v) ≡ Has t l → Costs k l (y v) t) → Costs u l (FromNormal e y) t
+  cost-normal : (h p u l : ℕ) (t e : T) (y : T → Inference T) (a : Answer T) → run (endless L) h Whole u e ≡ a → after_normal a (λ f left. judged_within L h p left (y f)) ≡ Has t l
+      → ((v : T) (k : ℕ) → judged_within L h p k (y v) ≡ Has t l → Costs k l (y v) t) → Costs u l (FromNormal e y) t
   cost-normal h p u l t e y (Found v k) r s ih =
       let (m, w, z) = whole_cost_of_run L u k e v (h, r) in
       let (n, q, x) = ih v k s in
@@ -24,8 +23,8 @@ module _ {T : Type 0} (L : Lang T) where
   cost-normal h p u l t e y (Deep k) r s ih = absurd cc
   cost-normal h p u l t e y Over r s ih = absurd cc
 
-  cost-part : (h p u l k : ℕ) (t : T) (m : Inference T) (y : T → Inference T) (a : Judgment T) → J L h p u m ≡ a → after_part k a (λ f left. J L h p left (y f)) ≡ Has t l
-      → ((v : T) (j : ℕ) → J L h p u m ≡ Has v j → Costs u j m v) → ((v : T) (j : ℕ) → J L h p j (y v) ≡ Has t l → Costs j l (y v) t) → Costs u l (FromPart k m y) t
+  cost-part : (h p u l k : ℕ) (t : T) (m : Inference T) (y : T → Inference T) (a : Judgment T) → judged_within L h p u m ≡ a → after_part k a (λ f left. judged_within L h p left (y f)) ≡ Has t l
+      → ((v : T) (j : ℕ) → judged_within L h p u m ≡ Has v j → Costs u j m v) → ((v : T) (j : ℕ) → judged_within L h p j (y v) ≡ Has t l → Costs j l (y v) t) → Costs u l (FromPart k m y) t
   cost-part h p u l k t m y (Has v j) r s before ih =
       let (a, z, w) = before v j r in
       let (n, q, x) = ih v j s in
@@ -37,8 +36,8 @@ module _ {T : Type 0} (L : Lang T) where
   cost-part h p u l k t m y IsOverAside r s before ih = absurd cc
   cost-part h p u l k t m y IsShallow r s before ih = absurd cc
 
-  cost-aside : (h p u l : ℕ) (t : T) (m : Inference T) (y : Option T → Inference T) (a : Judgment T) → J L h p p m ≡ a → after_aside a (λ o. J L h p u (y o)) ≡ Has t l
-      → ((o : Option T) → J L h p u (y o) ≡ Has t l → Costs u l (y o) t) → Costs u l (Aside m y) t
+  cost-aside : (h p u l : ℕ) (t : T) (m : Inference T) (y : Option T → Inference T) (a : Judgment T) → judged_within L h p p m ≡ a → after_aside a (λ o. judged_within L h p u (y o)) ≡ Has t l
+      → ((o : Option T) → judged_within L h p u (y o) ≡ Has t l → Costs u l (y o) t) → Costs u l (Aside m y) t
   cost-aside h p u l t m y (Has v j) r s ih =
       let (n, q, x) = ih (Some v) s in (n, q, aside-type L p j n m v y (Has t 0) (λ c g. g) (h, p, r) x)
   cost-aside h p u l t m y (Ill path rule) r s ih =
@@ -62,11 +61,11 @@ module _ {T : Type 0} (L : Lang T) where
   cost-instead u l t m rule (n, q, (h, p, r)) = (n, q, (h, p, ap (λ z. instead z rule) r))
 
   -- so what a machine found at its first use is kept with its whole cost
-  pub cost-of : (h p u l : ℕ) (t : T) (i : Inference T) → J L h p u i ≡ Has t l → Costs u l i t
+  pub cost-of : (h p u l : ℕ) (t : T) (i : Inference T) → judged_within L h p u i ≡ Has t l → Costs u l i t
   cost-of h p u l t (Gives v) r = (0, (let q = has_left v t u l r in omega arith), (0, 0, ap (λ z. Has z 0) (has_type v t u l r)))
   cost-of h p u l t (Fails rule) r = absurd cc
   cost-of h p u l t Deeper r = absurd cc
   cost-of h p u l t (FromNormal e y) r = cost-normal h p u l t e y (run (endless L) h Whole u e) refl r (λ v k s. cost-of h p k l t (y v) s)
-  cost-of h p u l t (FromPart k m y) r = cost-part h p u l k t m y (J L h p u m) refl r (λ v j s. cost-of h p u j v m s) (λ v j s. cost-of h p j l t (y v) s)
-  cost-of h p u l t (Aside m y) r = cost-aside h p u l t m y (J L h p p m) refl r (λ o s. cost-of h p u l t (y o) s)
-  cost-of h p u l t (Instead m rule) r = cost-instead u l t m rule (cost-of h p u l t m (instead-type (J L h p u m) rule t l r))
+  cost-of h p u l t (FromPart k m y) r = cost-part h p u l k t m y (judged_within L h p u m) refl r (λ v j s. cost-of h p u j v m s) (λ v j s. cost-of h p j l t (y v) s)
+  cost-of h p u l t (Aside m y) r = cost-aside h p u l t m y (judged_within L h p p m) refl r (λ o s. cost-of h p u l t (y o) s)
+  cost-of h p u l t (Instead m rule) r = cost-instead u l t m rule (cost-of h p u l t m (instead-type (judged_within L h p u m) rule t l r))

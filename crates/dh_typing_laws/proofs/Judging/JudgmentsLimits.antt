@@ -8,7 +8,8 @@ use Rattle.dh_syntax.specs.Normalising.Normal.{endless}
 use Rattle.dh_syntax.specs.Expressions.Tree.{Tree}
 use Rattle.dh_syntax.specs.Typing.TypeRules.{Rule}
 use Rattle.dh_laws.specs.NamelessAnswers.{answer_map}
-use Rattle.dh_typing_laws.proofs.Judging.Judgments.{judgment_map, JudgedAlike, judged-courses}
+use Rattle.dh_typing_laws.specs.Judgments.{judgment_map}
+use Rattle.dh_typing_laws.proofs.Judging.Judgments.{JudgedAlike, judged-courses}
 use Rattle.dh_typing_laws.proofs.Ruling.Typings.{Courses}
 
 pub found-before : {S T : Type 0} (f : S → T) (a : Answer S) (t : T) (l : ℕ) → answer_map f a ≡ Found t l → (v : S) × (a ≡ Found v l) × (t ≡ f v)

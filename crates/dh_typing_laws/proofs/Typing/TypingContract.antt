@@ -22,7 +22,8 @@ use Rattle.dh_laws.proofs.Normalising.RunsAlike.{plus}
 use Rattle.dh_typing_laws.proofs.Typing.TypingLaws.{named_type, named_refusal, named_over, named_spent_aside, named_limit, named_wide}
 use Rattle.dh_typing_laws.proofs.Typing.TypingsKept.{Coded, embed, meaning, Sortless, StandsFor, kept_typing}
 use Rattle.dh_typing_laws.proofs.Typing.TypingsKeptAnswers.{Kept, IsKept, answers, kept_infer}
-use Rattle.dh_typing_laws.proofs.Typing.TypingsNamed.{names_of, cored, cored-itself}
+use Rattle.dh_typing_laws.specs.NamelessTyping.{names_of, cored}
+use Rattle.dh_typing_laws.proofs.Typing.TypingsNamed.{cored-itself}
 
 -- `deep` is what licenses `Deep` for an expression, and `deep'` for a nameless form
 module _ (deep' : Core → Type 0) (deep : Term → Type 0) (deeper : (zs : List Name) (d : Core) (f : Term) → d ≡ core_below zs f → deep' d → deep f)

@@ -24,7 +24,8 @@ use Rattle.dh_laws.proofs.Normalising.RunsAlike.{plus}
 use Rattle.dh_typing_laws.proofs.Typing.TypingContract.{MayAnswer, infer_with_kept}
 use Rattle.dh_typing_laws.proofs.Typing.TypingsKept.{Coded, embed, meaning, Sortless, StandsFor, kept_typing}
 use Rattle.dh_typing_laws.proofs.Typing.TypingsKeptAnswers.{Kept, IsKept, answers}
-use Rattle.dh_typing_laws.proofs.Typing.TypingsNamed.{core-runs, names_of, cored}
+use Rattle.dh_typing_laws.specs.NamelessTyping.{names_of, cored}
+use Rattle.dh_typing_laws.proofs.Typing.TypingsNamed.{core-runs}
 
 -- with so many heights and some number of units the plain run ends by height
 abbrev pub IsHigh : ℕ → Core → Type 0

@@ -20,7 +20,8 @@ use Rattle.dh_syntax.specs.Typing.TypeRules.{Rule}
 use Rattle.dh_syntax.specs.Typing.Typing.{typing}
 use Rattle.dh_syntax.proofs.Moves.{nesting-moved, staying, moved-staying}
 use Rattle.dh_laws.specs.NamelessAnswers.{answer_map}
-use Rattle.dh_typing_laws.proofs.Judging.Judgments.{judgment_map, JudgedAlike}
+use Rattle.dh_typing_laws.specs.Judgments.{judgment_map}
+use Rattle.dh_typing_laws.proofs.Judging.Judgments.{JudgedAlike}
 use Rattle.dh_typing_laws.proofs.Judging.JudgmentsLimits.{has-before, ill-before, over-before, wide-before, deep-before, found-before, LimitsAlike, limit-courses}
 use Rattle.dh_laws.proofs.Normalising.MovedRuns.{MovedAlike, trees-alike}
 use Rattle.dh_laws.proofs.Normalising.NamedAnswers.{tested-equal}

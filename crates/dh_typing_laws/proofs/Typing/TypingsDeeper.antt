@@ -1,5 +1,5 @@
 -- More depth changes nothing but that it does not suffice.
-use Rattle.std.specs.Prelude.{◌≡◌, ℕ, suc, Option, Some, None, option_map, refl, ⊤}
+use Rattle.std.specs.Prelude.{◌≡◌, ℕ, suc, Option, Some, None, option_map, refl}
 use Rattle.std.proofs.Common.{ap, sym, ◌∙◌, subst as along}
 use Rattle.dh_syntax.specs.Normalising.Heads.{Answer, Found, Wide, Deep, Over}
 use Rattle.dh_syntax.specs.Typing.Inference.{Inference, Judgment, Has, Ill, IsWide, IsDeep, IsOver, IsOverAside, IsShallow, after_normal, after_part, after_aside, instead, judged}
@@ -11,29 +11,20 @@ use Rattle.dh_syntax.specs.Typing.TypeRules.{Rule}
 use Rattle.dh_syntax.specs.Typing.Typing.{typing}
 use Rattle.dh_syntax.proofs.Moves.{staying, moved-staying}
 use Rattle.dh_laws.proofs.Normalising.RunsAlike.{plus}
+use Rattle.dh_typing_laws.specs.Judgments.{IsUnlessShallow}
 use Rattle.dh_typing_laws.proofs.Ruling.TypedRules.{ScopesMove}
 use Rattle.dh_typing_laws.proofs.Ruling.Typings.{Courses, by_context, typing-is_over, given_type-alike, typing-alike}
 use Rattle.dh_typing_laws.proofs.Typing.TypingsMoved.{IsMoved, moved-expressions}
 
 module _ {T : Type 0} where
-  -- the second one is the first one, unless the depth of the first one did not suffice
-  abbrev pub Deepened : Judgment T → Judgment T → Type 0
-  Deepened (Has t left) b = b ≡ Has t left
-  Deepened (Ill path rule) b = b ≡ Ill path rule
-  Deepened IsWide b = b ≡ IsWide
-  Deepened IsDeep b = b ≡ IsDeep
-  Deepened IsOver b = b ≡ IsOver
-  Deepened IsOverAside b = b ≡ IsOverAside
-  Deepened IsShallow b = ⊤
-
-  after_normal-deepened : (a : Answer T) (x y : T → ℕ → Judgment T) → ((e : T) (l : ℕ) → Deepened (x e l) (y e l)) → Deepened (after_normal a x) (after_normal a y)
+  after_normal-deepened : (a : Answer T) (x y : T → ℕ → Judgment T) → ((e : T) (l : ℕ) → IsUnlessShallow (x e l) (y e l)) → IsUnlessShallow (after_normal a x) (after_normal a y)
   after_normal-deepened (Found e l) x y h = h e l
   after_normal-deepened (Wide l) x y h = refl
   after_normal-deepened (Deep l) x y h = refl
   after_normal-deepened Over x y h = refl
 
-  after_part-deepened : (n : ℕ) (a b : Judgment T) (x y : T → ℕ → Judgment T) → Deepened a b → ((e : T) (l : ℕ) → Deepened (x e l) (y e l)) → Deepened (after_part n a x) (after_part n b y)
-  after_part-deepened n (Has t l) b x y p h = along (λ z. Deepened (x t l) (after_part n z y)) (sym p) (h t l)
+  after_part-deepened : (n : ℕ) (a b : Judgment T) (x y : T → ℕ → Judgment T) → IsUnlessShallow a b → ((e : T) (l : ℕ) → IsUnlessShallow (x e l) (y e l)) → IsUnlessShallow (after_part n a x) (after_part n b y)
+  after_part-deepened n (Has t l) b x y p h = along (λ z. IsUnlessShallow (x t l) (after_part n z y)) (sym p) (h t l)
   after_part-deepened n (Ill path rule) b x y p h = ap (λ z. after_part n z y) p
   after_part-deepened n IsWide b x y p h = ap (λ z. after_part n z y) p
   after_part-deepened n IsDeep b x y p h = ap (λ z. after_part n z y) p
@@ -41,16 +32,16 @@ module _ {T : Type 0} where
   after_part-deepened n IsOverAside b x y p h = ap (λ z. after_part n z y) p
   after_part-deepened n IsShallow b x y p h = tt
 
-  after_aside-deepened : (a b : Judgment T) (x y : Option T → Judgment T) → Deepened a b → ((o : Option T) → Deepened (x o) (y o)) → Deepened (after_aside a x) (after_aside b y)
-  after_aside-deepened (Has t l) b x y p h = along (λ z. Deepened (x (Some t)) (after_aside z y)) (sym p) (h (Some t))
-  after_aside-deepened (Ill path rule) b x y p h = along (λ z. Deepened (x None) (after_aside z y)) (sym p) (h None)
+  after_aside-deepened : (a b : Judgment T) (x y : Option T → Judgment T) → IsUnlessShallow a b → ((o : Option T) → IsUnlessShallow (x o) (y o)) → IsUnlessShallow (after_aside a x) (after_aside b y)
+  after_aside-deepened (Has t l) b x y p h = along (λ z. IsUnlessShallow (x (Some t)) (after_aside z y)) (sym p) (h (Some t))
+  after_aside-deepened (Ill path rule) b x y p h = along (λ z. IsUnlessShallow (x None) (after_aside z y)) (sym p) (h None)
   after_aside-deepened IsWide b x y p h = ap (λ z. after_aside z y) p
   after_aside-deepened IsDeep b x y p h = ap (λ z. after_aside z y) p
   after_aside-deepened IsOver b x y p h = ap (λ z. after_aside z y) p
   after_aside-deepened IsOverAside b x y p h = ap (λ z. after_aside z y) p
   after_aside-deepened IsShallow b x y p h = tt
 
-  instead-deepened : (a b : Judgment T) (r : Rule) → Deepened a b → Deepened (instead a r) (instead b r)
+  instead-deepened : (a b : Judgment T) (r : Rule) → IsUnlessShallow a b → IsUnlessShallow (instead a r) (instead b r)
   instead-deepened (Has t l) b r p = ap (λ z. instead z r) p
   instead-deepened (Ill path rule) b r p = ap (λ z. instead z r) p
   instead-deepened IsWide b r p = ap (λ z. instead z r) p
@@ -78,13 +69,13 @@ module _ {A B : Type 0} (S : Scopes A B) where
 
   module _ (normal : ℕ → Tree A B → Answer (Tree A B)) where
     abbrev Q : Unit {0} → Inference (Tree A B) → Inference (Tree A B) → Type 0
-    Q s i j = (purse units : ℕ) → Deepened (judged normal purse units i) (judged normal purse units j)
+    Q s i j = (purse units : ℕ) → IsUnlessShallow (judged normal purse units i) (judged normal purse units j)
 
     deepened-normal : (d e : Tree A B) (x y : Tree A B → Inference (Tree A B)) → d ≡ moved staying tt e → ((t : Tree A B) → Q tt (x (moved staying tt t)) (y t)) → (purse units : ℕ)
-        → Deepened (after_normal (normal units d) (λ f left. judged normal purse left (x f))) (after_normal (normal units e) (λ f left. judged normal purse left (y f)))
+        → IsUnlessShallow (after_normal (normal units d) (λ f left. judged normal purse left (x f))) (after_normal (normal units e) (λ f left. judged normal purse left (y f)))
     deepened-normal d e x y p k purse units =
-        along (λ z. Deepened (after_normal (normal units d) (λ f left. judged normal purse left (x f))) (after_normal (normal units z) (λ f left. judged normal purse left (y f)))) (p ∙ moved-staying e)
-        (after_normal-deepened (normal units d) _ _ (λ t l. along (λ z. Deepened (judged normal purse l (x z)) (judged normal purse l (y t))) (moved-staying t) (k t purse l)))
+        along (λ z. IsUnlessShallow (after_normal (normal units d) (λ f left. judged normal purse left (x f))) (after_normal (normal units z) (λ f left. judged normal purse left (y f)))) (p ∙ moved-staying e)
+        (after_normal-deepened (normal units d) _ _ (λ t l. along (λ z. IsUnlessShallow (judged normal purse l (x z)) (judged normal purse l (y t))) (moved-staying t) (k t purse l)))
 
     q : Courses staying (IsMoved staying) Q
     q = record {
@@ -93,9 +84,9 @@ module _ {A B : Type 0} (S : Scopes A B) where
       deeper = λ s purse units. tt;
       from_normal = λ s d e x y p k purse units. deepened-normal d e x y p k purse units;
       from_part = λ s t n i j x y p k purse units.
-          after_part-deepened n _ _ _ _ (p purse units) (λ u l. along (λ z. Deepened (judged normal purse l (x z)) (judged normal purse l (y u))) (moved-staying u) (k u purse l));
+          after_part-deepened n _ _ _ _ (p purse units) (λ u l. along (λ z. IsUnlessShallow (judged normal purse l (x z)) (judged normal purse l (y u))) (moved-staying u) (k u purse l));
       aside = λ s i j x y p k purse units.
-          after_aside-deepened _ _ _ _ (p purse purse) (λ o. along (λ z. Deepened (judged normal purse units (x z)) (judged normal purse units (y o))) (sym (map-itself o)) (k o purse units));
+          after_aside-deepened _ _ _ _ (p purse purse) (λ o. along (λ z. IsUnlessShallow (judged normal purse units (x z)) (judged normal purse units (y o))) (sym (map-itself o)) (k o purse units));
       instead = λ s i j r p purse units. instead-deepened _ _ r (p purse units);
     }
 
@@ -110,7 +101,7 @@ module _ {A B : Type 0} (S : Scopes A B) where
         leaf-type d f u v w r = let h : a ≡ b = cc in ap (λ z. S.type_in z a) r ∙ ap (S.type_in c) h ∙ map-itself (S.type_in c b)
     leaf-deeper more depth s c' c a (Node op r) g p = absurd cc
 
-    pub typing-deeper : (depth more : ℕ) (c : Context A B) (e : Tree A B) (purse units : ℕ) → Deepened (judged normal purse units (typing S depth c e)) (judged normal purse units (typing S (plus depth more) c e))
+    pub typing-deeper : (depth more : ℕ) (c : Context A B) (e : Tree A B) (purse units : ℕ) → IsUnlessShallow (judged normal purse units (typing S depth c e)) (judged normal purse units (typing S (plus depth more) c e))
     typing-deeper depth more c e =
         along (λ z. Q tt z (typing S (plus depth more) c e)) (sym (typing-is_over S depth c e))
         (typing-alike staying (IsMoved staying) (λ t k' k. k' ≡ k) Q S S staying-scopes (moved-expressions staying S S staying-scopes staying-puts) q

@@ -4,7 +4,7 @@ use Rattle.std.proofs.Common.{ap, sym, ◌∙◌, subst as along}
 use Rattle.std.proofs.Math.Path.{fun_ext}
 use Rattle.dh_syntax.specs.declared.operators.Builtin.{Builtin}
 use Rattle.dh_syntax.specs.Normalising.Heads.{Lang, Answer}
-use Rattle.dh_syntax.specs.Typing.Inference.{Inference, Gives, Fails, Deeper, FromNormal, FromPart, Aside, Instead, Has, Ill, after_part, judged, ComesTo, IsRefused}
+use Rattle.dh_syntax.specs.Typing.Inference.{Inference, Gives, Fails, Deeper, FromNormal, FromPart, Aside, Instead, Has, Ill, after_part, judged, ComesTo, IsRefused, judged_within}
 use Rattle.dh_syntax.specs.Names.Moves.{moved}
 use Rattle.dh_syntax.specs.Names.Nameless.{Ref, ren, sub, first}
 use Rattle.dh_syntax.specs.Normalising.NamelessRuns.{nameless_eq, nameless_binders}
@@ -14,9 +14,8 @@ use Rattle.dh_syntax.specs.Expressions.Tree.{Tree, Name}
 use Rattle.dh_syntax.specs.Normalising.Trees.{trees}
 use Rattle.dh_syntax.specs.Typing.TypeRules.{Rule}
 use Rattle.dh_syntax.specs.Typing.Typing.{typing}
-use Rattle.dh_typing_laws.proofs.Judging.Judgments.{judgment_map}
+use Rattle.dh_typing_laws.specs.Judgments.{judgment_map}
 use Rattle.dh_typing_laws.proofs.Judging.JudgmentsLag.{NormalLag, TypingLag, kept-lag, JudgedLag, lag-courses}
-use Rattle.dh_typing_laws.proofs.Judging.JudgmentsSteady.{J}
 use Rattle.dh_laws.proofs.Normalising.RunsAlike.{plus}
 use Rattle.dh_typing_laws.proofs.Ruling.Typings.{Courses}
 use Rattle.dh_typing_laws.proofs.Typing.TypingsKept.{Coded, embedding, embed, meaning, meaning-embed, Sortless, sortless-embed, StandsFor, held, cell_sub, kept_typing, substitution, let_substitution}
@@ -127,12 +126,12 @@ module _ {B : Type 0} (types : Builtin → Option (Tree Ref B)) (binder : Name �
   kept_below Unknown = Unknown
 
   pub below-judged : (heights purse depth : ℕ) (y : B) (t : Tree Ref B) (c : Context Ref B) (units : ℕ) (v : Tree Ref B)
-      → J K heights purse units (typing (nameless_scopes types binder) depth (enter (nameless_scopes types binder) y t c) (ren (λ k. suc k) v))
-      ≡ judgment_map (ren (λ k. suc k)) (J K heights purse units (typing (nameless_scopes types binder) depth c v))
+      → judged_within K heights purse units (typing (nameless_scopes types binder) depth (enter (nameless_scopes types binder) y t c) (ren (λ k. suc k) v))
+      ≡ judgment_map (ren (λ k. suc k)) (judged_within K heights purse units (typing (nameless_scopes types binder) depth c v))
   below-judged heights purse depth y t c units v =
-      ap (λ z. J K heights purse units (typing (nameless_scopes types binder) depth (enter (nameless_scopes types binder) y t c) z)) (sym (keeping-ren one v))
+      ap (λ z. judged_within K heights purse units (typing (nameless_scopes types binder) depth (enter (nameless_scopes types binder) y t c) z)) (sym (keeping-ren one v))
       ∙ weakened types binder closed x a as' too_deep heights purse depth one (enter (nameless_scopes types binder) y t c) c units v (longer-by_one types binder closed y t c)
-      ∙ ap (λ g. judgment_map g (J K heights purse units (typing (nameless_scopes types binder) depth c v))) (fun_ext (keeping-ren one))
+      ∙ ap (λ g. judgment_map g (judged_within K heights purse units (typing (nameless_scopes types binder) depth c v))) (fun_ext (keeping-ren one))
 
   -- what is kept of a value is kept, shifted, of the shifted value under one more binder: the type shifted, or the same
   -- path and rule

@@ -2,21 +2,21 @@
 use Rattle.std.specs.Prelude.{◌≡◌, ℕ, suc}
 use Rattle.std.proofs.Common.{arith, subst as along}
 use Rattle.dh_syntax.specs.Normalising.Heads.{Lang, Whole, run}
-use Rattle.dh_syntax.specs.Typing.Inference.{Judgment, Has, Ill}
+use Rattle.dh_syntax.specs.Typing.Inference.{Judgment, Has, Ill, judged_within}
 use Rattle.dh_syntax.specs.Normalising.Normal.{endless}
 use Rattle.dh_syntax.specs.Typing.Scopes.{Scopes, Context}
 use Rattle.dh_syntax.specs.Expressions.Tree.{Tree}
 use Rattle.dh_syntax.specs.Typing.Typing.{typing}
-use Rattle.dh_typing_laws.proofs.Judging.JudgmentsSteady.{J}
 use Rattle.dh_laws.proofs.Normalising.RunLimits.{plus-is}
 use Rattle.dh_laws.proofs.Normalising.RunsAlike.{plus}
-use Rattle.dh_typing_laws.proofs.Typing.TypingsDeeper.{Deepened, typing-deeper}
+use Rattle.dh_typing_laws.specs.Judgments.{IsUnlessShallow}
+use Rattle.dh_typing_laws.proofs.Typing.TypingsDeeper.{typing-deeper}
 use Rattle.dh_typing_laws.proofs.Typing.TypingsKeptAnswers.{Kept, Is, At, Unknown, IsKept}
 
 module _ {A B : Type 0} (S : Scopes A B) (L : Lang (Tree A B)) where
-  judged-deeper : (h p u depth more : ℕ) (c : Context A B) (e : Tree A B) (j : Judgment (Tree A B)) → J L h p u (typing S depth c e) ≡ j → Deepened j (J L h p u (typing S (plus depth more) c e))
+  judged-deeper : (h p u depth more : ℕ) (c : Context A B) (e : Tree A B) (j : Judgment (Tree A B)) → judged_within L h p u (typing S depth c e) ≡ j → IsUnlessShallow j (judged_within L h p u (typing S (plus depth more) c e))
   judged-deeper h p u depth more c e j r =
-      along (λ z. Deepened z (J L h p u (typing S (plus depth more) c e))) r (typing-deeper S (λ n d. run (endless L) h Whole n d) depth more c e p u)
+      along (λ z. IsUnlessShallow z (judged_within L h p u (typing S (plus depth more) c e))) r (typing-deeper S (λ n d. run (endless L) h Whole n d) depth more c e p u)
 
   pub kept-deeper : (depth more : ℕ) (c : Context A B) (v : Tree A B) (k : Kept (Tree A B)) → IsKept L (typing S depth c v) k → IsKept L (typing S (plus depth more) c v) k
   kept-deeper depth more c v (Is t) (n, (h, p, r)) = (n, (h, p, judged-deeper h p n depth more c v (Has t 0) r))

@@ -27,7 +27,9 @@ use Rattle.dh_syntax.proofs.SameTree.{term_eq-Decides}
 use Rattle.dh_laws.specs.NamelessAnswers.{answer_map}
 use Rattle.dh_laws.proofs.Names.Cores.{core-shift_up_one, core-shift_down, core-contracted}
 use Rattle.dh_laws.proofs.Names.FreeShifts.{not_this}
-use Rattle.dh_typing_laws.proofs.Judging.Judgments.{judgment_map, JudgedAlike, judged-courses}
+use Rattle.dh_typing_laws.specs.NamelessTyping.{names_of, cored}
+use Rattle.dh_typing_laws.specs.Judgments.{judgment_map}
+use Rattle.dh_typing_laws.proofs.Judging.Judgments.{JudgedAlike, judged-courses}
 use Rattle.dh_laws.proofs.Contracting.Moved.{BindersMove}
 use Rattle.dh_laws.proofs.Normalising.MovedRuns.{MovedAlike, trees-alike}
 use Rattle.dh_laws.proofs.Normalising.NamedRuns.{same-bare_below, bare_below-same}
@@ -191,14 +193,6 @@ same-core ys d e =
 
 -- ---- contexts
 
-abbrev pub names_of : Context Var Name → List Name
-names_of [] = []
-names_of ((y, t) ∷ c) = y ∷ names_of c
-
-abbrev pub cored : (Term → Core) → Context Var Name → Context Ref Name
-cored g [] = []
-cored g ((y, t) ∷ c) = (y, g t) ∷ cored g c
-
 -- the nameless form of a context, and the names of its binders
 abbrev pub IsCored : List Name → Context Ref Name → Context Var Name → Type 0
 IsCored ys c' c = (ys ≡ names_of c) × (c' ≡ cored (core_below ys) c)
@@ -215,7 +209,7 @@ cored-map : (g g' : Term → Core) (h : Term → Term) (k : Core → Core) → (
 cored-map g g' h k p [] = refl
 cored-map g g' h k p ((y, t) ∷ c) = let q = p t in let r = cored-map g g' h k p c in λ i. (y, q i) ∷ r i
 
-entering-core : (ys : List Name) (x : Name) (t : Term) (c' : Context Ref Name) (c : Context Var Name) → IsCored ys c' c
+pub entering-core : (ys : List Name) (x : Name) (t : Term) (c' : Context Ref Name) (c : Context Var Name) → IsCored ys c' c
     → IsCored (x ∷ ys) (enter core_scopes x (core_below ys t) c') (enter named.scopes x t c)
 entering-core ys x t c' c g = (
   ap (λ zs. x ∷ zs) (g.0 ∙ sym (names-map (shift_up x 0) c)),

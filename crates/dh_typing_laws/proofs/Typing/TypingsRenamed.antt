@@ -19,7 +19,8 @@ use Rattle.dh_syntax.specs.Typing.Typing.{typing}
 use Rattle.dh_syntax.proofs.Moves.{staying, moved-staying}
 use Rattle.dh_laws.specs.NamelessAnswers.{answer_map}
 use Rattle.dh_laws.proofs.Contracting.Contractions.{ren-first}
-use Rattle.dh_typing_laws.proofs.Judging.Judgments.{judgment_map, JudgedAlike, judged-courses}
+use Rattle.dh_typing_laws.specs.Judgments.{judgment_map}
+use Rattle.dh_typing_laws.proofs.Judging.Judgments.{JudgedAlike, judged-courses}
 use Rattle.dh_laws.proofs.Contracting.Moved.{BindersMove}
 use Rattle.dh_laws.proofs.Normalising.MovedRuns.{MovedAlike, trees-alike}
 use Rattle.dh_laws.proofs.Names.Renamings.{ren-ren}
