@@ -1,3 +1,4 @@
+pub mod KeptTypings
 pub mod OneTyping
 pub mod TypingContract
 pub mod TypingContractExamples

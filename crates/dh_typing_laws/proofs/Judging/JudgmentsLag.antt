@@ -1,14 +1,15 @@
 -- A typing that keeps answers, or whose normaliser keeps heads, against the plain count: what it comes to the plain inference
 -- comes to with at least as many units and the same units left, or some number of units comes to.
-use Rattle.std.specs.Prelude.{◌≡◌, ℕ, ◌+◌, List, Option, Some, None, option_map, refl, ⊤}
+use Rattle.std.specs.Prelude.{◌≡◌, ℕ, ◌+◌, List, Option, Some, None, option_map, refl}
 use Rattle.std.proofs.Common.{ap, sym, ◌∙◌, arith, inl, inr, subst as along}
 use Rattle.dh_syntax.specs.Normalising.Heads.{Lang, Whole, Answer, Found, Wide, Deep, Over, run}
-use Rattle.dh_syntax.specs.Typing.Inference.{Inference, FromNormal, FromPart, Aside, Instead, Judgment, Has, Ill, IsWide, IsDeep, IsOver, IsOverAside, IsShallow, after_normal, after_part, after_aside, instead, judged, ComesTo, IsRefused, MeetsLimit, MeetsNormal, judged_within}
+use Rattle.dh_syntax.specs.Typing.Inference.{Inference, FromNormal, FromPart, Aside, Instead, Judgment, Has, Ill, IsWide, IsDeep, IsOver, IsOverAside, IsShallow, after_normal, after_part, after_aside, instead, judged, ComesTo, judged_within}
 use Rattle.dh_syntax.specs.Names.Moves.{Move, moved}
 use Rattle.dh_syntax.specs.Normalising.Normal.{endless, Normalises}
 use Rattle.dh_syntax.specs.Expressions.Tree.{Tree}
 use Rattle.dh_syntax.specs.Typing.TypeRules.{Rule}
 use Rattle.dh_laws.specs.Runs.{IsWithMore}
+use Rattle.dh_typing_laws.specs.KeptTypes.{NormalLag, TypingLag}
 use Rattle.dh_typing_laws.specs.Judgments.{IsJudgedWithMore, IsUnlessTooFew}
 use Rattle.dh_typing_laws.proofs.Judging.JudgmentsSteady.{later, grown}
 use Rattle.dh_laws.proofs.Normalising.RunLimits.{more_units, higher}
@@ -147,33 +148,15 @@ module _ {T : Type 0} (L : Lang T) where
 
   -- ---- the relation
 
-  module _ (wide deep : T → Type 0) where
-    -- a normaliser that takes no more than the plain count
-    abbrev pub NormalLag : {U : Type 0} → (T → U) → ℕ → T → Answer U → Type 0
-    NormalLag f u e (Found t l) = (v : T) × (t ≡ f v) × (extra : ℕ) × Normalises L (u + extra) e (Found v l)
-    NormalLag f u e (Wide l) = wide e
-    NormalLag f u e (Deep l) = deep e
-    NormalLag f u e Over = Normalises L u e Over
-
   module _ (wide deep : T → Type 0) (purse : ℕ) where
-    -- a typing that takes no more than the plain count, and whose typings aside have this purse; with too little depth it says nothing
-    abbrev pub TypingLag : {U : Type 0} → (T → U) → ℕ → Inference T → Judgment U → Type 0
-    TypingLag f u j (Has t l) = (v : T) × (t ≡ f v) × (extra : ℕ) × ComesTo L (u + extra) j (Has v l)
-    TypingLag f u j (Ill path rule) = IsRefused L j path rule
-    TypingLag f u j IsWide = MeetsNormal L wide j
-    TypingLag f u j IsDeep = MeetsNormal L deep j
-    TypingLag f u j IsOver = ComesTo L u j IsOver
-    TypingLag f u j IsOverAside = MeetsLimit L (λ e. ⊥) (λ i. ComesTo L purse i IsOver) j
-    TypingLag f u j IsShallow = ⊤
-
     -- a type that is kept costs nothing: whatever it took once, the plain inference takes it again
-    pub kept-lag : {U : Type 0} (f : T → U) (units n : ℕ) (j : Inference T) (t : T) → ComesTo L n j (Has t 0) → TypingLag f units j (Has (f t) units)
+    pub kept-lag : {U : Type 0} (f : T → U) (units n : ℕ) (j : Inference T) (t : T) → ComesTo L n j (Has t 0) → TypingLag L wide deep purse f units j (Has (f t) units)
     kept-lag f units n j t (h, p, r) =
         let w : judged_within L h p (n + units) j ≡ Has t (0 + units) = along (λ z. IsJudgedWithMore units z (judged_within L h p (n + units) j)) r (later L h p n units j) in
         (t, refl, n, (h, p, along (λ z. judged_within L h p z j ≡ Has t units) (omega arith) (w ∙ ap (Has t) (omega arith))))
 
     -- the same of a judgment that comes later, from what is before it
-    pub normal-lag : {U : Type 0} (f : T → U) (u extra l : ℕ) (e v : T) (y : T → Inference T) → Normalises L (u + extra) e (Found v l) → (b : Judgment U) → TypingLag f l (y v) b → TypingLag f u (FromNormal e y) b
+    pub normal-lag : {U : Type 0} (f : T → U) (u extra l : ℕ) (e v : T) (y : T → Inference T) → Normalises L (u + extra) e (Found v l) → (b : Judgment U) → TypingLag L wide deep purse f l (y v) b → TypingLag L wide deep purse f u (FromNormal e y) b
     normal-lag f u extra l e v y r (Has t l') (w, q, more, s) =
         (w, q, extra + more, along (λ z. ComesTo L z (FromNormal e y) (Has w l')) (omega arith) (normal-then (u + extra) more l e v y (Has w l') (λ c g. g) r s))
     normal-lag f u extra l e v y r (Ill path rule) (n, (h, p, s)) =
@@ -184,7 +167,7 @@ module _ {T : Type 0} (L : Lang T) where
     normal-lag f u extra l e v y r IsOverAside s = inr (v, (u + extra, l, r), s)
     normal-lag f u extra l e v y r IsShallow s = tt
 
-    pub part-lag : {U : Type 0} (f : T → U) (u extra l n : ℕ) (j : Inference T) (v : T) (y : T → Inference T) → ComesTo L (u + extra) j (Has v l) → (b : Judgment U) → TypingLag f l (y v) b → TypingLag f u (FromPart n j y) b
+    pub part-lag : {U : Type 0} (f : T → U) (u extra l n : ℕ) (j : Inference T) (v : T) (y : T → Inference T) → ComesTo L (u + extra) j (Has v l) → (b : Judgment U) → TypingLag L wide deep purse f l (y v) b → TypingLag L wide deep purse f u (FromPart n j y) b
     part-lag f u extra l n j v y r (Has t l') (w, q, more, s) =
         (w, q, extra + more, along (λ z. ComesTo L z (FromPart n j y) (Has w l')) (omega arith) (part-then (u + extra) more l n j v y (Has w l') (λ c g. g) r s))
     part-lag f u extra l n j v y r (Ill path rule) (k, (h, p, s)) =
@@ -195,7 +178,7 @@ module _ {T : Type 0} (L : Lang T) where
     part-lag f u extra l n j v y r IsOverAside s = inr (v, (u + extra, l, r), s)
     part-lag f u extra l n j v y r IsShallow s = tt
 
-    pub aside_type-lag : {U : Type 0} (f : T → U) (u n l : ℕ) (j : Inference T) (v : T) (y : Option T → Inference T) → ComesTo L n j (Has v l) → (b : Judgment U) → TypingLag f u (y (Some v)) b → TypingLag f u (Aside j y) b
+    pub aside_type-lag : {U : Type 0} (f : T → U) (u n l : ℕ) (j : Inference T) (v : T) (y : Option T → Inference T) → ComesTo L n j (Has v l) → (b : Judgment U) → TypingLag L wide deep purse f u (y (Some v)) b → TypingLag L wide deep purse f u (Aside j y) b
     aside_type-lag f u n l j v y r (Has t l') (w, q, more, s) = (w, q, more, aside-type n l (u + more) j v y (Has w l') (λ c g. g) r s)
     aside_type-lag f u n l j v y r (Ill path rule) (k, s) = (k, aside-type n l k j v y (Ill path rule) (λ c g. g) r s)
     aside_type-lag f u n l j v y r IsWide s = inr (inr (inl (v, (n, l, r), s)))
@@ -205,7 +188,7 @@ module _ {T : Type 0} (L : Lang T) where
     aside_type-lag f u n l j v y r IsShallow s = tt
 
     pub aside_refused-lag : {U : Type 0} (f : T → U) (u n : ℕ) (j : Inference T) (path : List ℕ) (rule : Rule) (y : Option T → Inference T) → ComesTo L n j (Ill path rule) → (b : Judgment U)
-        → TypingLag f u (y None) b → TypingLag f u (Aside j y) b
+        → TypingLag L wide deep purse f u (y None) b → TypingLag L wide deep purse f u (Aside j y) b
     aside_refused-lag f u n j path rule y r (Has t l') (w, q, more, s) = (w, q, more, aside-refused n (u + more) j path rule y (Has w l') (λ c g. g) r s)
     aside_refused-lag f u n j path rule y r (Ill path' rule') (k, s) = (k, aside-refused n k j path rule y (Ill path' rule') (λ c g. g) r s)
     aside_refused-lag f u n j path rule y r IsWide s = inr (inr (inr (path, rule, (n, r), s)))
@@ -216,18 +199,18 @@ module _ {T : Type 0} (L : Lang T) where
 
     -- ---- what follows each question
 
-    pub after_normal-lag : {U : Type 0} (f : T → U) (u : ℕ) (e : T) (y : T → Inference T) (a : Answer U) (x : U → ℕ → Judgment U) → NormalLag wide deep f u e a
-        → ((v : T) (l : ℕ) → TypingLag f l (y v) (x (f v) l)) → TypingLag f u (FromNormal e y) (after_normal a x)
+    pub after_normal-lag : {U : Type 0} (f : T → U) (u : ℕ) (e : T) (y : T → Inference T) (a : Answer U) (x : U → ℕ → Judgment U) → NormalLag L wide deep f u e a
+        → ((v : T) (l : ℕ) → TypingLag L wide deep purse f l (y v) (x (f v) l)) → TypingLag L wide deep purse f u (FromNormal e y) (after_normal a x)
     after_normal-lag f u e y (Found t l) x (v, q, extra, r) k =
-        along (λ z. TypingLag f u (FromNormal e y) (x z l)) (sym q) (normal-lag f u extra l e v y r (x (f v) l) (k v l))
+        along (λ z. TypingLag L wide deep purse f u (FromNormal e y) (x z l)) (sym q) (normal-lag f u extra l e v y r (x (f v) l) (k v l))
     after_normal-lag f u e y (Wide l) x r k = inl r
     after_normal-lag f u e y (Deep l) x r k = inl r
     after_normal-lag f u e y Over x (h, r) k = (h, 0, ap (λ z. after_normal z (λ d left. judged_within L h 0 left (y d))) r)
 
-    pub after_part-lag : {U : Type 0} (f g : T → U) (u n : ℕ) (j : Inference T) (y : T → Inference T) (a : Judgment U) (x : U → ℕ → Judgment U) → TypingLag g u j a
-        → ((v : T) (l : ℕ) → TypingLag f l (y v) (x (g v) l)) → TypingLag f u (FromPart n j y) (after_part n a x)
+    pub after_part-lag : {U : Type 0} (f g : T → U) (u n : ℕ) (j : Inference T) (y : T → Inference T) (a : Judgment U) (x : U → ℕ → Judgment U) → TypingLag L wide deep purse g u j a
+        → ((v : T) (l : ℕ) → TypingLag L wide deep purse f l (y v) (x (g v) l)) → TypingLag L wide deep purse f u (FromPart n j y) (after_part n a x)
     after_part-lag f g u n j y (Has t l) x (v, q, extra, r) k =
-        along (λ z. TypingLag f u (FromPart n j y) (x z l)) (sym q) (part-lag f u extra l n j v y r (x (g v) l) (k v l))
+        along (λ z. TypingLag L wide deep purse f u (FromPart n j y) (x z l)) (sym q) (part-lag f u extra l n j v y r (x (g v) l) (k v l))
     after_part-lag f g u n j y (Ill path rule) x (m, (h, p, r)) k = (m, (h, p, ap (λ z. after_part n z (λ d left. judged_within L h p left (y d))) r))
     after_part-lag f g u n j y IsWide x r k = inl r
     after_part-lag f g u n j y IsDeep x r k = inl r
@@ -235,10 +218,10 @@ module _ {T : Type 0} (L : Lang T) where
     after_part-lag f g u n j y IsOverAside x r k = inl r
     after_part-lag f g u n j y IsShallow x r k = tt
 
-    pub after_aside-lag : {U : Type 0} (f : T → U) (u : ℕ) (j : Inference T) (y : Option T → Inference T) (a : Judgment U) (x : Option U → Judgment U) → TypingLag f purse j a
-        → ((o : Option T) → TypingLag f u (y o) (x (option_map f o))) → TypingLag f u (Aside j y) (after_aside a x)
+    pub after_aside-lag : {U : Type 0} (f : T → U) (u : ℕ) (j : Inference T) (y : Option T → Inference T) (a : Judgment U) (x : Option U → Judgment U) → TypingLag L wide deep purse f purse j a
+        → ((o : Option T) → TypingLag L wide deep purse f u (y o) (x (option_map f o))) → TypingLag L wide deep purse f u (Aside j y) (after_aside a x)
     after_aside-lag f u j y (Has t l) x (v, q, extra, r) k =
-        along (λ z. TypingLag f u (Aside j y) (x (Some z))) (sym q) (aside_type-lag f u (purse + extra) l j v y r (x (Some (f v))) (k (Some v)))
+        along (λ z. TypingLag L wide deep purse f u (Aside j y) (x (Some z))) (sym q) (aside_type-lag f u (purse + extra) l j v y r (x (Some (f v))) (k (Some v)))
     after_aside-lag f u j y (Ill path rule) x (n, r) k = aside_refused-lag f u n j path rule y r (x None) (k None)
     after_aside-lag f u j y IsWide x r k = inr (inl r)
     after_aside-lag f u j y IsDeep x r k = inr (inl r)
@@ -246,7 +229,7 @@ module _ {T : Type 0} (L : Lang T) where
     after_aside-lag f u j y IsOverAside x r k = inr (inl r)
     after_aside-lag f u j y IsShallow x r k = tt
 
-    pub instead-lag : {U : Type 0} (f : T → U) (u : ℕ) (j : Inference T) (rule : Rule) (a : Judgment U) → TypingLag f u j a → TypingLag f u (Instead j rule) (instead a rule)
+    pub instead-lag : {U : Type 0} (f : T → U) (u : ℕ) (j : Inference T) (rule : Rule) (a : Judgment U) → TypingLag L wide deep purse f u j a → TypingLag L wide deep purse f u (Instead j rule) (instead a rule)
     instead-lag f u j rule (Has t l) (v, q, extra, (h, p, r)) = (v, q, extra, (h, p, ap (λ z. instead z rule) r))
     instead-lag f u j rule (Ill path other) (n, (h, p, r)) = (n, (h, p, ap (λ z. instead z rule) r))
     instead-lag f u j rule IsWide r = r

@@ -18,16 +18,11 @@ use Rattle.dh_syntax.specs.Typing.TypeViews.{first_of, is_constant}
 use Rattle.dh_syntax.specs.Typing.Typing as typings
 use Rattle.dh_syntax.specs.Typing.Universes.{as_universe, function_check}
 use Rattle.dh_syntax.specs.Expressions.Views.{bodies}
+use Rattle.dh_typing_laws.specs.KeptTypes.{typing_over}
 use Rattle.dh_typing_laws.proofs.Ruling.MovedViews.{moved_list}
 use Rattle.dh_laws.proofs.Normalising.RunsAlike.{plus}
 use Rattle.dh_typing_laws.proofs.Ruling.TypedRules.{ScopesMove, OptionsAlike, RulesAlike, operator_ruling-alike, record_ruling-alike}
 use Rattle.dh_typing_laws.proofs.Ruling.TypedViews.{get-moved, is_constant-moved, as_universe-moved, universe-moved, moved_forall, as_forall-moved}
-
--- Typing in which leaves answer by `look`; nodes have the rules of `Typing`.
-abbrev pub typing_over : {A B : Type 0} → Scopes A B → (ℕ → Context A B → A → Inference (Tree A B)) → ℕ → Context A B → Tree A B → Inference (Tree A B)
-typing_over S look zero context e = Deeper
-typing_over S look (suc depth) context (Leaf a) = look depth context a
-typing_over S look (suc depth) context (Node op r) = typings.node S (typing_over S look depth) context op r
 
 -- what leaves answer in `Typing`
 abbrev pub by_context : {A B : Type 0} → Scopes A B → ℕ → Context A B → A → Inference (Tree A B)

@@ -8,8 +8,7 @@ use Rattle.dh_syntax.specs.Expressions.Nesting.{nesting}
 use Rattle.dh_syntax.specs.Normalising.Normal.{endless, IsWideLicensed}
 use Rattle.dh_syntax.specs.Expressions.Tree.{Name}
 use Rattle.dh_laws.specs.NamelessAnswers.{answer_map}
-use Rattle.dh_typing_laws.proofs.Judging.JudgmentsLag.{NormalLag}
-use Rattle.dh_typing_laws.proofs.Typing.TypingsKept.{Coded, embed, meaning, StandsFor}
+use Rattle.dh_typing_laws.specs.KeptTypes.{Coded, embed, meaning, StandsFor, NormalLag}
 
 abbrev machine : ℕ → Coded Name → Answer (Coded Name)
 machine units d = answer_map embed (run (endless cores) 60 Whole units (meaning d))

@@ -15,15 +15,14 @@ use Rattle.dh_syntax.specs.Expressions.Tree.{Name, Var, Term}
 use Rattle.dh_syntax.specs.Typing.Typing.{typing}
 use Rattle.dh_laws.specs.KeptRuns.{Sound, KeepsHeads}
 use Rattle.dh_laws.proofs.Normalising.NamelessAgain.{cores_law}
-use Rattle.dh_typing_laws.proofs.Judging.JudgmentsLag.{NormalLag}
+use Rattle.dh_typing_laws.specs.KeptTypes.{Coded, embed, meaning, Sortless, StandsFor, kept_typing, Kept, IsKept, NormalLag}
 use Rattle.dh_typing_laws.proofs.Judging.JudgmentsLimits.{deep-before}
 use Rattle.dh_laws.proofs.Normalising.KeepingMachine.{machine, Finds, machine-lag}
 use Rattle.dh_laws.proofs.Normalising.LagContract.{found-contract, wide-contract, spent-contract, deep-contract}
 use Rattle.dh_laws.specs.KeptHeads.{endless_run, Lag}
 use Rattle.dh_laws.proofs.Normalising.RunsAlike.{plus}
-use Rattle.dh_typing_laws.proofs.Typing.TypingContract.{MayAnswer, infer_with_kept}
-use Rattle.dh_typing_laws.proofs.Typing.TypingsKept.{Coded, embed, meaning, Sortless, StandsFor, kept_typing}
-use Rattle.dh_typing_laws.proofs.Typing.TypingsKeptAnswers.{Kept, IsKept, answers}
+use Rattle.dh_typing_laws.proofs.Typing.TypingContract.{MayAnswerBy, infer_with_kept}
+use Rattle.dh_typing_laws.proofs.Typing.TypingsKeptAnswers.{answers}
 use Rattle.dh_typing_laws.specs.NamelessTyping.{names_of, cored}
 use Rattle.dh_typing_laws.proofs.Typing.TypingsNamed.{core-runs}
 
@@ -69,7 +68,7 @@ module _ (Store : Type 0) (kept : Store → Core → Option Core) (keep : Store 
   module _ (more : ℕ) (types : Context Ref Name → Core → Kept Core)
       (valid : (depth : ℕ) (c : Context Ref Name) (v : Core) → IsKept cores (typing core_scopes (suc (plus depth more)) c v) (types c v)) where
     pub infer_over_engine : (depth : ℕ) (c : Context Var Name) (e : Term) (d : Coded Name) → Sortless d → meaning d ≡ core_below (names_of c) e → (units : ℕ)
-        → MayAnswer (IsHigh hh) (IsHighNamed hh) (high-named hh) engine engine-lags c units e
+        → MayAnswerBy (IsHigh hh) (IsHighNamed hh) (high-named hh) engine engine-lags c units e
         (judged engine purse_aside units
         (kept_typing (λ b. option_map to_core (type_of b)) (λ x. x)
         (answers (λ b. option_map to_core (type_of b)) (λ x. x) cores (IsWideLicensed cores nesting) (IsHigh hh) purse_aside engine (λ s u g f p. engine-lags s u g f p) more types valid) depth (cored (core_below (names_of c)) c) d))

@@ -7,94 +7,22 @@ use Rattle.dh_syntax.specs.declared.expressions.Op.TheVariants as ops
 use Rattle.dh_syntax.specs.declared.operators.Builtin.{Builtin}
 use Rattle.dh_syntax.specs.declared.operators.Builtin.TheVariants as builtins
 use Rattle.dh_syntax.specs.Typing.Inference.{Inference, Deeper}
-use Rattle.dh_syntax.specs.Names.Moves.{Move, moved, moved_row}
-use Rattle.dh_syntax.specs.Names.Nameless.{Ref, Bound, Free, renamed_ref, lifted, renaming, ren, raised, sub, sub_row, first}
+use Rattle.dh_syntax.specs.Names.Moves.{moved, moved_row}
+use Rattle.dh_syntax.specs.Names.Nameless.{Ref, Bound, Free, lifted, renaming, ren, raised, sub, sub_row, first}
 use Rattle.dh_syntax.specs.Normalising.NamelessRuns.{nameless_eq}
 use Rattle.dh_syntax.specs.Typing.NamelessTyping.{down, type_in, nameless_scopes}
 use Rattle.dh_syntax.specs.Typing.Scopes.{Scopes, Context, enter}
 use Rattle.dh_syntax.specs.Expressions.Tree.{Tree, Row, Leaf, Node, end, kid, Name}
 use Rattle.dh_syntax.specs.Typing.TypeRules as rule
 use Rattle.dh_syntax.specs.Typing.TypeViews.{is_constant}
-use Rattle.dh_syntax.specs.Typing.Typing.{given_type, typing}
+use Rattle.dh_syntax.specs.Typing.Typing.{typing}
 use Rattle.dh_laws.proofs.Normalising.RunsAlike.{plus}
+use Rattle.dh_typing_laws.specs.KeptTypes.{Cell, Plain, Value, Coded, embedding, embed, meaning, meaning_row, Sortless, Sortless_row, valued, value, cell_ren, cells_raised, cell_sub, cell_sub_row, held, StandsFor, coded_context, plain_context, looking, cell_scopes, kept_typing}
 use Rattle.dh_typing_laws.proofs.Ruling.TypedRules.{ScopesMove}
 use Rattle.dh_typing_laws.proofs.Ruling.TypedViews.{is_constant-moved}
-use Rattle.dh_typing_laws.proofs.Ruling.Typings.{RowOver, row_of, Expressions, Courses, typing_over, given_type-alike, typing-alike}
-
--- a leaf of an expression whose context holds values: a variable, or a variable whose value is this normal form
-pub data Cell (B : Type 0) : Type 0 where
-  Plain : Ref → Cell B
-  Value : Tree Ref B → Cell B
-
--- an expression with values in its context
-abbrev pub Coded : Type 0 → Type 0
-Coded B = Tree (Cell B) B
+use Rattle.dh_typing_laws.proofs.Ruling.Typings.{RowOver, row_of, Expressions, Courses, given_type-alike, typing-alike}
 
 module _ {B : Type 0} where
-  -- an expression without values
-  abbrev pub embedding : Move (Unit {0}) Ref B (Cell B) B
-  embedding = record { leaf = λ s r. Plain r; binder = λ y. y; enter = λ s y. tt }
-
-  abbrev pub embed : Tree Ref B → Coded B
-  embed e = moved embedding tt e
-
-  abbrev mutual
-    -- what it stands for: the values put in
-    pub meaning : Coded B → Tree Ref B
-    meaning (Leaf (Plain r)) = Leaf r
-    meaning (Leaf (Value v)) = v
-    meaning (Node op r) = Node op (meaning_row r)
-
-    pub meaning_row : Row (Cell B) B → Row Ref B
-    meaning_row end = end
-    meaning_row (kid b e r) = kid b (meaning e) (meaning_row r)
-
-  abbrev mutual
-    -- no value is the constant `Sort`: whether an annotation is that is seen without looking at values
-    pub Sortless : Coded B → Type 0
-    Sortless (Leaf (Plain r)) = Unit {0}
-    Sortless (Leaf (Value v)) = is_constant builtins.Sort v ≡ false
-    Sortless (Node op r) = Sortless_row r
-
-    pub Sortless_row : Row (Cell B) B → Type 0
-    Sortless_row end = Unit {0}
-    Sortless_row (kid b e r) = Sortless e × Sortless_row r
-
-  -- a value; the constant `Sort`, which no well-typed value is, is put in
-  abbrev pub valued : Bool → Tree Ref B → Coded B
-  valued true v = embed v
-  valued false v = Leaf (Value v)
-
-  abbrev pub value : Tree Ref B → Coded B
-  value v = valued (is_constant builtins.Sort v) v
-
-  abbrev pub cell_ren : Move (ℕ → ℕ) (Cell B) B (Cell B) B
-  cell_ren = record { leaf = λ f c. elim c [ Plain r ↦ Plain (renamed_ref f r) | Value v ↦ Value (ren f v) ]; binder = λ y. y; enter = λ f y. lifted f }
-
-  abbrev pub cells_raised : (ℕ → Coded B) → ℕ → Coded B
-  cells_raised s zero = Leaf (Plain (Bound 0))
-  cells_raised s (suc i) = moved cell_ren (λ k. suc k) (s i)
-
-  abbrev pub cells_below : Option B → (ℕ → Coded B) → ℕ → Coded B
-  cells_below None s = s
-  cells_below (Some y) s = cells_raised s
-
-  abbrev mutual
-    pub cell_sub : (ℕ → Coded B) → Coded B → Coded B
-    cell_sub s (Leaf (Plain (Bound i))) = s i
-    cell_sub s (Leaf (Plain (Free x n))) = Leaf (Plain (Free x n))
-    cell_sub s (Leaf (Value v)) = value (sub (λ i. meaning (s i)) v)
-    cell_sub s (Node op r) = Node op (cell_sub_row s r)
-
-    pub cell_sub_row : (ℕ → Coded B) → Row (Cell B) B → Row (Cell B) B
-    cell_sub_row s end = end
-    cell_sub_row s (kid b e r) = kid b (cell_sub (cells_below b s) e) (cell_sub_row s r)
-
-  -- this value for the variable of the nearest binder, which is taken away
-  abbrev pub held : Tree Ref B → ℕ → Coded B
-  held v zero = value v
-  held v (suc i) = Leaf (Plain (Bound i))
-
   -- ---- what they stand for
 
   same_kid : (b : Option B) (e e' : Tree Ref B) (r r' : Row Ref B) → e ≡ e' → r ≡ r' → kid b e r ≡ kid b e' r'
@@ -204,9 +132,6 @@ module _ {B : Type 0} where
 
   -- ---- the relation of expressions
 
-  abbrev pub StandsFor : Unit {0} → Coded B → Tree Ref B → Type 0
-  StandsFor s d e = (meaning d ≡ e) × Sortless d
-
   abbrev over : (q : Row (Cell B) B) → Sortless_row q → RowOver embedding StandsFor tt (meaning_row q)
   over end h = tt
   over (kid None e q) h = ((e, (refl, h.0)), over q h.1)
@@ -237,19 +162,7 @@ module _ {B : Type 0} where
     abbrev scopes : Scopes Ref B
     scopes = nameless_scopes types binder
 
-    -- what typing does with names and binders where contexts hold values; only `put` makes one
-    abbrev pub cell_scopes : Scopes (Cell B) B
-    cell_scopes = record {
-      type_of = λ b. option_map embed (types b);
-      type_in = λ c a. None;
-      binder = binder;
-      up = λ y t. embed (ren (λ k. suc k) (meaning t));
-      down = λ y t. option_map embed (down (meaning t));
-      put = λ y a d. cell_sub (held (meaning a)) d;
-      same = λ t u. nameless_eq (meaning t) (meaning u);
-    }
-
-    pub scopes-embedded : ScopesMove embedding scopes cell_scopes
+    pub scopes-embedded : ScopesMove embedding scopes (cell_scopes types binder)
     scopes-embedded = record {
       type_of = λ s b. refl;
       binder = λ x. refl;
@@ -262,7 +175,7 @@ module _ {B : Type 0} where
         → (r : Row Ref B) × (p : RowOver embedding StandsFor s r) × (e ≡ Node op r) × (q ≡ row_of embedding StandsFor s r p)
     coded-node s op q e h = (meaning_row q, over q h.1, sym h.0, row-over q h.1)
 
-    pub coded-expressions : Expressions embedding StandsFor scopes cell_scopes
+    pub coded-expressions : Expressions embedding StandsFor scopes (cell_scopes types binder)
     coded-expressions = record {
       known = λ s e. (meaning-embed e, sortless-embed e);
       node = coded-node;
@@ -273,12 +186,6 @@ module _ {B : Type 0} where
     }
 
     -- ---- contexts of opened binders, which have types
-
-    abbrev pub coded_context : Context Ref B → Context (Cell B) B
-    coded_context c = map (λ (y, t). (y, embed t)) c
-
-    abbrev pub plain_context : Context (Cell B) B → Context Ref B
-    plain_context c = map (λ (y, t). (y, meaning t)) c
 
     plain-coded : (c : Context Ref B) → plain_context (coded_context c) ≡ c
     plain-coded [] = refl
@@ -294,19 +201,8 @@ module _ {B : Type 0} where
         let p = ap (λ u. embed (ren (λ k. suc k) u)) (meaning-embed t) in let q = ups-coded x c in λ i. (y, p i) ∷ q i
 
     entering-coded : (s : Unit {0}) (x : B) (t : Tree Ref B) (c' : Context (Cell B) B) (c : Context Ref B) → IsCoded s c' c
-        → IsCoded tt (enter cell_scopes x (embed t) c') (enter scopes x t c)
-    entering-coded s x t c' c g = ap (λ z. enter cell_scopes x (embed t) z) g ∙ ups-coded x ((x, t) ∷ c)
-
-    -- ---- the law
-
-    -- what a leaf answers: an opened variable has its type, and a variable with a value what `use` says of that value
-    abbrev pub looking : (ℕ → Context Ref B → Tree Ref B → Inference (Coded B)) → ℕ → Context (Cell B) B → Cell B → Inference (Coded B)
-    looking answers depth c (Plain r) = given_type (option_map embed (type_in (plain_context c) r)) rule.UnboundVariable
-    looking answers depth c (Value v) = answers depth (plain_context c) v
-
-    -- typing in which a `let` puts its value into the context
-    abbrev pub kept_typing : (ℕ → Context Ref B → Tree Ref B → Inference (Coded B)) → ℕ → Context Ref B → Coded B → Inference (Coded B)
-    kept_typing answers depth c d = typing_over cell_scopes (looking answers) depth (coded_context c) d
+        → IsCoded tt (enter (cell_scopes types binder) x (embed t) c') (enter scopes x t c)
+    entering-coded s x t c' c g = ap (λ z. enter (cell_scopes types binder) x (embed t) z) g ∙ ups-coded x ((x, t) ∷ c)
 
     module _ (Q : Unit {0} → Inference (Coded B) → Inference (Tree Ref B) → Type 0) (q : Courses embedding StandsFor Q) (more : ℕ)
         (answers : ℕ → Context Ref B → Tree Ref B → Inference (Coded B))
@@ -316,22 +212,22 @@ module _ {B : Type 0} where
           → Q s (looking answers depth c' a) (typing scopes (suc (plus depth more)) c e)
       leaf-coded depth s c' c (Plain r) e g p =
           along (λ z. Q s (looking answers depth c' (Plain r)) (typing scopes (suc (plus depth more)) c z)) p.0
-          (given_type-alike embedding StandsFor IsCoded Q scopes cell_scopes scopes-embedded coded-expressions q entering-coded s _ _ rule.UnboundVariable
+          (given_type-alike embedding StandsFor IsCoded Q scopes (cell_scopes types binder) scopes-embedded coded-expressions q entering-coded s _ _ rule.UnboundVariable
           (ap (λ z. option_map embed (type_in z r)) (ap plain_context g ∙ plain-coded c)))
       leaf-coded depth s c' c (Value v) e g p =
           along (λ z. Q s (answers depth (plain_context c') v) (typing scopes (suc (plus depth more)) c z)) p.0
           (along (λ z. Q s (answers depth z v) (typing scopes (suc (plus depth more)) c v)) (sym (ap plain_context g ∙ plain-coded c)) (used depth c v))
 
       -- SUBSTITUTION, for every relation of inferences and whatever each use of a value answers
-      pub substitution : (depth : ℕ) (c : Context Ref B) (d : Coded B) → Sortless d → Q tt (kept_typing answers depth c d) (typing scopes (plus depth more) c (meaning d))
+      pub substitution : (depth : ℕ) (c : Context Ref B) (d : Coded B) → Sortless d → Q tt (kept_typing types binder answers depth c d) (typing scopes (plus depth more) c (meaning d))
       substitution depth c d h =
-          typing-alike embedding StandsFor IsCoded Q scopes cell_scopes scopes-embedded coded-expressions q entering-coded more (looking answers)
+          typing-alike embedding StandsFor IsCoded Q scopes (cell_scopes types binder) scopes-embedded coded-expressions q entering-coded more (looking answers)
           (λ s c' k a e g p. shallow k e) leaf-coded depth tt (coded_context c) c d (meaning d) refl (refl, h)
 
       -- the body of a `let`, with its value in the context
       pub let_substitution : (depth : ℕ) (c : Context Ref B) (v b : Tree Ref B)
-          → Q tt (kept_typing answers depth c (cell_sub (held v) (embed b))) (typing scopes (plus depth more) c (sub (first v) b))
+          → Q tt (kept_typing types binder answers depth c (cell_sub (held v) (embed b))) (typing scopes (plus depth more) c (sub (first v) b))
       let_substitution depth c v b =
-          along (λ z. Q tt (kept_typing answers depth c (cell_sub (held v) (embed b))) (typing scopes (plus depth more) c z))
+          along (λ z. Q tt (kept_typing types binder answers depth c (cell_sub (held v) (embed b))) (typing scopes (plus depth more) c z))
           (meaning-put v (embed b) ∙ ap (sub (first v)) (meaning-embed b))
           (substitution depth c (cell_sub (held v) (embed b)) (sortless-put v (embed b) (sortless-embed b)))

@@ -1,10 +1,10 @@
 -- Typing with kept answers, and a normaliser that keeps heads, against the plain count.
-use Rattle.std.specs.Prelude.{◌≡◌, ℕ, suc, Bool, List, [], ◌∷◌, Option, Some, None, option_map, refl, ⊤}
+use Rattle.std.specs.Prelude.{◌≡◌, ℕ, suc, Bool, List, [], ◌∷◌, Option, Some, None, option_map, refl}
 use Rattle.std.proofs.Common.{ap, sym, ◌∙◌, subst as along}
 use Rattle.std.proofs.Math.Path.{fun_ext}
 use Rattle.dh_syntax.specs.declared.operators.Builtin.{Builtin}
 use Rattle.dh_syntax.specs.Normalising.Heads.{Lang, Answer}
-use Rattle.dh_syntax.specs.Typing.Inference.{Inference, Gives, Fails, Deeper, FromNormal, FromPart, Aside, Instead, Has, Ill, after_part, judged, ComesTo, IsRefused, judged_within}
+use Rattle.dh_syntax.specs.Typing.Inference.{Inference, Gives, Fails, Deeper, FromNormal, FromPart, Aside, Instead, Has, Ill, after_part, judged, judged_within}
 use Rattle.dh_syntax.specs.Names.Moves.{moved}
 use Rattle.dh_syntax.specs.Names.Nameless.{Ref, ren, sub, first}
 use Rattle.dh_syntax.specs.Normalising.NamelessRuns.{nameless_eq, nameless_binders}
@@ -14,52 +14,19 @@ use Rattle.dh_syntax.specs.Expressions.Tree.{Tree, Name}
 use Rattle.dh_syntax.specs.Normalising.Trees.{trees}
 use Rattle.dh_syntax.specs.Typing.TypeRules.{Rule}
 use Rattle.dh_syntax.specs.Typing.Typing.{typing}
+use Rattle.dh_typing_laws.specs.KeptTypes.{Coded, embedding, embed, meaning, Sortless, cell_sub, held, StandsFor, kept_typing, Kept, Is, At, Unknown, failing, IsKept, embedded, answer, kept_below, NormalLag, TypingLag}
 use Rattle.dh_typing_laws.specs.Judgments.{judgment_map}
-use Rattle.dh_typing_laws.proofs.Judging.JudgmentsLag.{NormalLag, TypingLag, kept-lag, JudgedLag, lag-courses}
+use Rattle.dh_typing_laws.proofs.Judging.JudgmentsLag.{kept-lag, JudgedLag, lag-courses}
 use Rattle.dh_laws.proofs.Normalising.RunsAlike.{plus}
 use Rattle.dh_typing_laws.proofs.Ruling.Typings.{Courses}
-use Rattle.dh_typing_laws.proofs.Typing.TypingsKept.{Coded, embedding, embed, meaning, meaning-embed, Sortless, sortless-embed, StandsFor, held, cell_sub, kept_typing, substitution, let_substitution}
+use Rattle.dh_typing_laws.proofs.Typing.TypingsKept.{meaning-embed, sortless-embed, substitution, let_substitution}
 use Rattle.dh_typing_laws.proofs.Typing.TypingsRenamed.{one, keeping-ren, longer-by_one, weakened}
-
--- what is kept of a value once it is typed: its type, or the place in it where no type can be derived and the rule
-pub data Kept (T : Type 0) : Type 0 where
-  Is : T → Kept T
-  At : List ℕ → Rule → Kept T
-  -- nothing yet
-  Unknown : Kept T
-
--- the inference that is this refusal
-abbrev pub failing : {T : Type 0} → List ℕ → Rule → Inference T
-failing [] rule = Fails rule
-failing (k ∷ path) rule = FromPart k (failing path rule) (λ t. Gives t)
 
 failing-judged : {T : Type 0} (normal : ℕ → T → Answer T) (purse units : ℕ) (path : List ℕ) (rule : Rule) → judged normal purse units (failing path rule) ≡ Ill path rule
 failing-judged normal purse units [] rule = refl
 failing-judged normal purse units (k ∷ path) rule = ap (λ z. after_part k z (λ t left. Has t left)) (failing-judged normal purse units path rule)
 
--- what is kept is what the inference comes to, whatever it costs
-abbrev pub IsKept : {T : Type 0} → Lang T → Inference T → Kept T → Type 0
-IsKept L j (Is t) = (n : ℕ) × ComesTo L n j (Has t 0)
-IsKept L j (At path rule) = IsRefused L j path rule
-IsKept L j Unknown = ⊤
-
 module _ {B : Type 0} where
-  -- the same course of questions, of expressions with values
-  abbrev pub embedded : Inference (Tree Ref B) → Inference (Coded B)
-  embedded (Gives t) = Gives (embed t)
-  embedded (Fails rule) = Fails rule
-  embedded Deeper = Deeper
-  embedded (FromNormal e next) = FromNormal (embed e) (λ t. embedded (next (meaning t)))
-  embedded (FromPart k m next) = FromPart k (embedded m) (λ t. embedded (next (meaning t)))
-  embedded (Aside m next) = Aside (embedded m) (λ o. embedded (next (option_map meaning o)))
-  embedded (Instead m rule) = Instead (embedded m) rule
-
-  -- what a use of a value answers: what is kept, and where nothing is, the typing of the value there
-  abbrev pub answer : Kept (Tree Ref B) → Inference (Tree Ref B) → Inference (Coded B)
-  answer (Is t) j = Gives (embed t)
-  answer (At path rule) j = failing path rule
-  answer Unknown j = embedded j
-
   map-means : (o : Option (Tree Ref B)) → option_map meaning (option_map embed o) ≡ o
   map-means (Some t) = ap Some (meaning-embed t)
   map-means None = refl
@@ -119,11 +86,6 @@ module _ {B : Type 0} (types : Builtin → Option (Tree Ref B)) (binder : Name �
     (x a as' : B) (too_deep : Tree Ref B → Bool) where
   abbrev K : Lang (Tree Ref B)
   K = trees (nameless_binders x a as') nameless_eq too_deep
-
-  abbrev pub kept_below : Kept (Tree Ref B) → Kept (Tree Ref B)
-  kept_below (Is t) = Is (ren (λ k. suc k) t)
-  kept_below (At path rule) = At path rule
-  kept_below Unknown = Unknown
 
   pub below-judged : (heights purse depth : ℕ) (y : B) (t : Tree Ref B) (c : Context Ref B) (units : ℕ) (v : Tree Ref B)
       → judged_within K heights purse units (typing (nameless_scopes types binder) depth (enter (nameless_scopes types binder) y t c) (ren (λ k. suc k) v))

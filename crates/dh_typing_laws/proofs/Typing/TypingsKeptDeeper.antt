@@ -9,9 +9,9 @@ use Rattle.dh_syntax.specs.Expressions.Tree.{Tree}
 use Rattle.dh_syntax.specs.Typing.Typing.{typing}
 use Rattle.dh_laws.proofs.Normalising.RunLimits.{plus-is}
 use Rattle.dh_laws.proofs.Normalising.RunsAlike.{plus}
+use Rattle.dh_typing_laws.specs.KeptTypes.{Kept, Is, At, Unknown, IsKept}
 use Rattle.dh_typing_laws.specs.Judgments.{IsUnlessShallow}
 use Rattle.dh_typing_laws.proofs.Typing.TypingsDeeper.{typing-deeper}
-use Rattle.dh_typing_laws.proofs.Typing.TypingsKeptAnswers.{Kept, Is, At, Unknown, IsKept}
 
 module _ {A B : Type 0} (S : Scopes A B) (L : Lang (Tree A B)) where
   judged-deeper : (h p u depth more : ℕ) (c : Context A B) (e : Tree A B) (j : Judgment (Tree A B)) → judged_within L h p u (typing S depth c e) ≡ j → IsUnlessShallow j (judged_within L h p u (typing S (plus depth more) c e))

@@ -19,8 +19,7 @@ use Rattle.dh_syntax.specs.Typing.TypeRulesRecords.{joined, joined_field}
 use Rattle.dh_syntax.specs.Typing.Typing.{typing}
 use Rattle.dh_syntax.specs.Expressions.Views.{as_record_type}
 use Rattle.dh_laws.specs.NamelessAnswers.{answer_map}
-use Rattle.dh_typing_laws.proofs.Typing.TypingsKept.{Coded, Value, embed, meaning, held, cell_sub, kept_typing}
-use Rattle.dh_typing_laws.proofs.Typing.TypingsKeptAnswers.{Kept, Is, At, Unknown, answer}
+use Rattle.dh_typing_laws.specs.KeptTypes.{Value, Coded, embed, meaning, cell_sub, held, kept_typing, Kept, Is, At, Unknown, answer}
 
 abbrev core_kept : (Core → Kept Core) → ℕ → Coded Name → Judgment (Coded Name)
 core_kept kept units d =

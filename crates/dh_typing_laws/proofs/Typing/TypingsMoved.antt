@@ -11,9 +11,10 @@ use Rattle.dh_syntax.specs.Typing.TypeRules as rule
 use Rattle.dh_syntax.specs.Typing.TypeViews.{is_constant}
 use Rattle.dh_syntax.specs.Typing.Typing as typings
 use Rattle.dh_laws.proofs.Normalising.RunsAlike.{plus}
+use Rattle.dh_typing_laws.specs.KeptTypes.{typing_over}
 use Rattle.dh_typing_laws.proofs.Ruling.TypedRules.{ScopesMove}
 use Rattle.dh_typing_laws.proofs.Ruling.TypedViews.{is_constant-moved}
-use Rattle.dh_typing_laws.proofs.Ruling.Typings.{RowOver, row_of, Expressions, Courses, typing_over, by_context, typing-is_over, given_type-alike, typing-alike}
+use Rattle.dh_typing_laws.proofs.Ruling.Typings.{RowOver, row_of, Expressions, Courses, by_context, typing-is_over, given_type-alike, typing-alike}
 
 plus-zero : (n : ℕ) → plus n 0 ≡ n
 plus-zero zero = refl
