@@ -96,14 +96,14 @@ apart t l p r h = absurd cc
 pub one_type : OneType
 one_type c e t u n m (d, r) (d', s) =
     let q = one_judgment Term names (n + m) (typing scopes (d + d') c e) (Has t (0 + m)) (Has u (0 + n)) tt tt
-        (has-both scopes names d d' n m c e t r) (other-way scopes names d d' n m c e (Has u (0 + n)) (has-both scopes names d' d m n c e u s)) in
+    (has-both scopes names d d' n m c e t r) (other-way scopes names d d' n m c e (Has u (0 + n)) (has-both scopes names d' d m n c e u s)) in
     let k = units-equal t u (0 + m) (0 + n) q in
     (types-equal t u (0 + m) (0 + n) q, omega arith)
 
 pub one_refusal : OneRefusal
 one_refusal c e path place number other (rule, n, (d, r), w) (rule', m, (d', s), w') =
     let q = one_judgment Term names (n + m) (typing scopes (d + d') c e) (Ill path rule) (Ill place rule') tt tt
-        (ill-both scopes names d d' n m c e path rule r) (other-way scopes names d d' n m c e (Ill place rule') (ill-both scopes names d' d m n c e place rule' s)) in
+    (ill-both scopes names d d' n m c e path rule r) (other-way scopes names d d' n m c e (Ill place rule') (ill-both scopes names d' d m n c e place rule' s)) in
     (paths-equal Term path place rule rule' q, w ∙ ap rule_number (rules-equal Term path place rule rule' q) ∙ sym w')
 
 pub type_or_refusal : TypeOrRefusal

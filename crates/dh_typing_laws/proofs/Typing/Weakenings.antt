@@ -65,12 +65,12 @@ weakenings heights purse depth x t c units e =
     let ys = names_of c in
     let longer = enter core_scopes x (core_below ys t) (core_context c) in
     let p : judgment_map (core_below (x ∷ ys)) (infer heights purse depth (enter scopes x t c) units (shift_up x 0 e))
-        ≡ judgment_map (core_below (x ∷ ys)) (judgment_map (shift_up x 0) (infer heights purse depth c units e)) =
-        sym (nameless_judged heights purse depth (x ∷ ys) longer (enter scopes x t c) units (shift_up x 0 e) (entering-core ys x t (core_context c) c (cored-itself c)))
-        ∙ ap (λ d. judged_within cores heights purse units (typing core_scopes depth longer d)) (core-shift_up_one x ys e)
-        ∙ core_weakening heights purse depth x (core_below ys t) (core_context c) units (core_below ys e)
-        ∙ ap (judgment_map (ren (λ k. suc k))) (nameless_judgments heights purse depth c units e)
-        ∙ shifted-core x ys (infer heights purse depth c units e) in
+    ≡ judgment_map (core_below (x ∷ ys)) (judgment_map (shift_up x 0) (infer heights purse depth c units e)) =
+    sym (nameless_judged heights purse depth (x ∷ ys) longer (enter scopes x t c) units (shift_up x 0 e) (entering-core ys x t (core_context c) c (cored-itself c)))
+    ∙ ap (λ d. judged_within cores heights purse units (typing core_scopes depth longer d)) (core-shift_up_one x ys e)
+    ∙ core_weakening heights purse depth x (core_below ys t) (core_context c) units (core_below ys e)
+    ∙ ap (judgment_map (ren (λ k. suc k))) (nameless_judgments heights purse depth c units e)
+    ∙ shifted-core x ys (infer heights purse depth c units e) in
     sym (read-back (x ∷ ys) (infer heights purse depth (enter scopes x t c) units (shift_up x 0 e)))
     ∙ ap (judgment_map (term_below (x ∷ ys))) p
     ∙ read-back (x ∷ ys) (judgment_map (shift_up x 0) (infer heights purse depth c units e))
