@@ -6,3 +6,4 @@ pub mod Parsing
 pub mod ReadingSteps
 pub mod Unique
 pub mod WithOffsets
+pub mod WithStretches

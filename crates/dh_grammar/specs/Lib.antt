@@ -6,6 +6,7 @@ pub mod Machine
 pub mod Making
 pub mod Parsed
 pub mod Picks
+pub mod Placing
 pub mod Reading
 pub mod Running
 pub mod Stubs
