@@ -11,8 +11,9 @@ use Rattle.dh_syntax.specs.Bytes.BinaryItems.{Item, single, map_of, tagged, item
 use Rattle.dh_syntax.specs.Bytes.BinaryLeaves.{unsigned_of}
 use Rattle.dh_syntax.specs.Bytes.BinaryRead.{Value, row, array_by, entered, holds, part, expression, value_of, Begins}
 use Rattle.dh_examples.specs.Bytes.ExampleBytes.{hex, u, minus, t, array, map}
-use Rattle.dh_examples.specs.ExampleNodes.{x_, y_, underscore, variable, x, two, num, int, bin}
 use Rattle.dh_syntax.specs.Expressions.Tree.{Node, Term}
+use Rattle.dh_examples.specs.Vocabulary.{two_parts, underscore, var, x, x0, y}
+use Rattle.dh_syntax.specs.Expressions.Forms.{integer, natural, operator}
 use Rattle.dh_syntax.proofs.BinaryHeadsOf.{is_atom, is_tagged_atom, is_pair, is_empty_array, is_array_of_one, is_map_of_two, is_map, is_tagged}
 
 -- ---- heads that cannot be read
@@ -22,7 +23,7 @@ abbrev sum_item : Item
 sum_item = array (u 3 ∷ u 4 ∷ array (u 15 ∷ u 1 ∷ []) ∷ array (u 15 ∷ u 2 ∷ []) ∷ [])
 
 abbrev sum : Term
-sum = bin op.Plus (num 1) (num 2)
+sum = operator op.Plus (natural 1) (natural 2)
 
 abbrev sum_bytes : List ℕ
 sum_bytes = hex "84 03 04 82 0F 01 82 0F 02"
@@ -111,10 +112,10 @@ wide_head = inl (record { ms = []; after = hex "1C"; reached = at_front (hex "1C
 -- ---- numbers beyond their ranges
 
 misread : (k : Bool) (i j : Item) (e : Term) → i ≡ j → expression k i ≡ Some e → expression k j ≡ None → ⊥
-misread k i j e p x n = let y : expression k j ≡ Some e = subst (λ z. expression k z ≡ Some e) p x in cc
+misread k i j e p x0 n = let y : expression k j ≡ Some e = subst (λ z. expression k z ≡ Some e) p x0 in cc
 
 no_such_index : ¬ CanGoOn false (atom (unsigned 2147483648) ∷ [])
-no_such_index (more, i, e, h, x) = misread false i (u 2147483648) e (is_atom (unsigned 2147483648) i more h) x refl
+no_such_index (more, i, e, h, x0) = misread false i (u 2147483648) e (is_atom (unsigned 2147483648) i more h) x0 refl
 
 -- `_@2147483648`
 wide_index : DecodesTo (hex "1A 80 00 00 00") (Err (fault.Wide 0))
@@ -127,7 +128,7 @@ wide_index = inr (record {
   place = refl;
   is_number = tt;
   next = refl;
-  fits = ([], u 2147483648, variable underscore 2147483648, refl, refl);
+  fits = ([], u 2147483648, var underscore 2147483648, refl, refl);
   wide = no_such_index;
 })
 
@@ -143,10 +144,10 @@ in_number : (bytes after : List ℕ) (n : ℕ) → Begins bytes (head.array 2 �
 in_number bytes after n h s = record { begins = h; sound = s; unfinished = refl; within = refl }
 
 natural_goes_on : CanGoOn false before_natural
-natural_goes_on = (atom (unsigned 0) ∷ [], array (u 15 ∷ u 0 ∷ []), num 0, refl, refl)
+natural_goes_on = (atom (unsigned 0) ∷ [], array (u 15 ∷ u 0 ∷ []), natural 0, refl, refl)
 
 integer_goes_on : CanGoOn false before_integer
-integer_goes_on = (atom (unsigned 0) ∷ [], array (u 16 ∷ u 0 ∷ []), int (pos 0), refl, refl)
+integer_goes_on = (atom (unsigned 0) ∷ [], array (u 16 ∷ u 0 ∷ []), integer (pos 0), refl, refl)
 
 -- an array of the number of a row and a bignum
 bignum_in : (n t : ℕ) (bs : List ℕ) (i : Item) (more : List Mark) → item_marks i ≡ head.array 2 ∷ atom (unsigned n) ∷ tag t ∷ atom (octets bs) ∷ more → i ≡ array (u n ∷ tagged t (single (octets bs)) ∷ [])
@@ -160,7 +161,7 @@ abbrev too_long : List ℕ
 too_long = hex "01 00 00 00 00 00 00 00 00 00 00 00 00 00 00 00 00"
 
 no_such_natural : ¬ CanGoOn false (before_natural ++ tag 2 ∷ atom (octets too_long) ∷ [])
-no_such_natural (more, i, e, h, x) = misread false i (array (u 15 ∷ tagged 2 (single (octets too_long)) ∷ [])) e (bignum_in 15 2 too_long i more h) x refl
+no_such_natural (more, i, e, h, x0) = misread false i (array (u 15 ∷ tagged 2 (single (octets too_long)) ∷ [])) e (bignum_in 15 2 too_long i more h) x0 refl
 
 wide_natural : DecodesTo (hex "82 0F C2 51 01 00 00 00 00 00 00 00 00 00 00 00 00 00 00 00 00") (Err (fault.Wide 2))
 wide_natural = inr (record {
@@ -172,7 +173,7 @@ wide_natural = inr (record {
   place = refl;
   is_number = tt;
   next = refl;
-  fits = ([], array (u 15 ∷ tagged 2 (single (octets too_long)) ∷ []), num (2 ^ 128), refl, refl);
+  fits = ([], array (u 15 ∷ tagged 2 (single (octets too_long)) ∷ []), natural (2 ^ 128), refl, refl);
   wide = no_such_natural;
 })
 
@@ -181,7 +182,7 @@ abbrev half : List ℕ
 half = hex "80 00 00 00 00 00 00 00 00 00 00 00 00 00 00 00"
 
 no_such_integer : ¬ CanGoOn false (before_integer ++ tag 2 ∷ atom (octets half) ∷ [])
-no_such_integer (more, i, e, h, x) = misread false i (array (u 16 ∷ tagged 2 (single (octets half)) ∷ [])) e (bignum_in 16 2 half i more h) x refl
+no_such_integer (more, i, e, h, x0) = misread false i (array (u 16 ∷ tagged 2 (single (octets half)) ∷ [])) e (bignum_in 16 2 half i more h) x0 refl
 
 wide_integer : DecodesTo (hex "82 10 C2 50 80 00 00 00 00 00 00 00 00 00 00 00 00 00 00 00") (Err (fault.Wide 2))
 wide_integer = inr (record {
@@ -193,7 +194,7 @@ wide_integer = inr (record {
   place = refl;
   is_number = tt;
   next = refl;
-  fits = ([], array (u 16 ∷ tagged 2 (single (octets half)) ∷ []), int (pos (2 ^ 127)), refl, refl);
+  fits = ([], array (u 16 ∷ tagged 2 (single (octets half)) ∷ []), integer (pos (2 ^ 127)), refl, refl);
   wide = no_such_integer;
 })
 
@@ -205,32 +206,32 @@ nothing_begins bytes rest m h n = record { ms = []; after = bytes; mark = m; res
 
 -- `undefined`
 undefined : DecodesTo (hex "F7") (Err (fault.Shape 0))
-undefined = nothing_begins (hex "F7") [] (atom (simple 23)) refl (λ k (more, i, e, h, x). misread k i (single (simple 23)) e (is_atom (simple 23) i more h) x refl)
+undefined = nothing_begins (hex "F7") [] (atom (simple 23)) refl (λ k (more, i, e, h, x0). misread k i (single (simple 23)) e (is_atom (simple 23) i more h) x0 refl)
 
 -- a name that is no built-in
 no_builtin : DecodesTo (hex "61 78") (Err (fault.Shape 0))
-no_builtin = nothing_begins (hex "61 78") [] (atom (characters x_)) refl (λ k (more, i, e, h, x). misread k i (t "x") e (is_atom (characters x_) i more h) x refl)
+no_builtin = nothing_begins (hex "61 78") [] (atom (characters x)) refl (λ k (more, i, e, h, x0). misread k i (t "x") e (is_atom (characters x) i more h) x0 refl)
 
 -- a number below zero
 below_zero : DecodesTo (hex "20") (Err (fault.Shape 0))
-below_zero = nothing_begins (hex "20") [] (atom (negative 0)) refl (λ k (more, i, e, h, x). misread k i (minus 0) e (is_atom (negative 0) i more h) x refl)
+below_zero = nothing_begins (hex "20") [] (atom (negative 0)) refl (λ k (more, i, e, h, x0). misread k i (minus 0) e (is_atom (negative 0) i more h) x0 refl)
 
 -- a map
 no_map : DecodesTo (hex "A0") (Err (fault.Shape 0))
-no_map = nothing_begins (hex "A0") [] (head.map 0) refl (λ k (more, i, e, h, x). let (ps, p) = is_map 0 i more h in misread k i (map_of ps) e p x refl)
+no_map = nothing_begins (hex "A0") [] (head.map 0) refl (λ k (more, i, e, h, x0). let (ps, p) = is_map 0 i more h in misread k i (map_of ps) e p x0 refl)
 
 -- a bignum that stands for no number of a row
 lone_bignum : DecodesTo (hex "C2 41 01") (Err (fault.Shape 0))
-lone_bignum = nothing_begins (hex "C2 41 01") (hex "41 01") (tag 2) refl (λ k (more, i, e, h, x). let (j, p) = is_tagged 2 i more h in misread k i (tagged 2 j) e p x refl)
+lone_bignum = nothing_begins (hex "C2 41 01") (hex "41 01") (tag 2) refl (λ k (more, i, e, h, x0). let (j, p) = is_tagged 2 i more h in misread k i (tagged 2 j) e p x0 refl)
 
 -- an array without items
 no_array : DecodesTo (hex "80") (Err (fault.Shape 0))
-no_array = nothing_begins (hex "80") [] (head.array 0) refl (λ k (more, i, e, h, x). misread k i (array []) e (is_empty_array i more h) x refl)
+no_array = nothing_begins (hex "80") [] (head.array 0) refl (λ k (more, i, e, h, x0). misread k i (array []) e (is_empty_array i more h) x0 refl)
 
 -- an array of one item
-same : {A : Type 0} (c : Bool) (x : A) → cond c x x ≡ x
-same true x = refl
-same false x = refl
+same : {A : Type 0} (c : Bool) (x0 : A) → cond c x0 x0 ≡ x0
+same true x0 = refl
+same false x0 = refl
 
 row_of_nothing : (k : Bool) (n : ℕ) → row k n [] ≡ None
 row_of_nothing k n = simp same
@@ -241,7 +242,7 @@ by_number k None j = refl
 
 array_of_one : DecodesTo (hex "81") (Err (fault.Shape 0))
 array_of_one = nothing_begins (hex "81") [] (head.array 1) refl
-    (λ k (more, i, e, h, x). let (j, p) = is_array_of_one i more h in misread k i (array (j ∷ [])) e p x (by_number k (unsigned_of (part k j).item) (part k j).item))
+    (λ k (more, i, e, h, x0). let (j, p) = is_array_of_one i more h in misread k i (array (j ∷ [])) e p x0 (by_number k (unsigned_of (part k j).item) (part k j).item))
 
 -- ---- at a later head
 
@@ -250,14 +251,14 @@ misfit : (bytes after rest : List ℕ) (ms : List Mark) (m : Mark) (at : ℕ) �
 misfit bytes after rest ms m at r p h n = record { ms = ms; after = after; mark = m; rest = rest; reached = r; place = p; next = h; misfit = n }
 
 pair_goes_on : CanGoOn false (head.array 2 ∷ [])
-pair_goes_on = (atom (unsigned 15) ∷ atom (unsigned 0) ∷ [], array (u 15 ∷ u 0 ∷ []), num 0, refl, refl)
+pair_goes_on = (atom (unsigned 15) ∷ atom (unsigned 0) ∷ [], array (u 15 ∷ u 0 ∷ []), natural 0, refl, refl)
 
 in_pair : (after : List ℕ) → Reached (0x82 ∷ after) (head.array 2 ∷ []) after
 in_pair after = record { begins = refl; sound = pair_goes_on; unfinished = refl; within = refl }
 
 -- an array of two items that begins with this one
 no_pair_with : (a : Atom) → ((k : Bool) (j : Item) → expression k (array (single a ∷ j ∷ [])) ≡ None) → BeginsNone (head.array 2 ∷ atom a ∷ [])
-no_pair_with a n k (more, i, e, h, x) = let (j, p, h₁) = is_pair a i more h in misread k i (array (single a ∷ j ∷ [])) e p x (n k j)
+no_pair_with a n k (more, i, e, h, x0) = let (j, p, h₁) = is_pair a i more h in misread k i (array (single a ∷ j ∷ [])) e p x0 (n k j)
 
 -- a number that no row has
 no_row : DecodesTo (hex "82 0C 00") (Err (fault.Shape 1))
@@ -288,7 +289,7 @@ no_label =
 no_negative_natural : DecodesTo (hex "82 0F 20") (Err (fault.Shape 2))
 no_negative_natural =
     misfit (hex "82 0F 20") (hex "20") [] before_natural (atom (negative 0)) 2 (in_number (hex "82 0F 20") (hex "20") 15 refl natural_goes_on) refl refl
-    (λ k (more, i, e, h, x). let (j, p, h₁) = is_pair (unsigned 15) i (atom (negative 0) ∷ more) h in let q = is_atom (negative 0) j more h₁ in misread k i (array (u 15 ∷ minus 0 ∷ [])) e (cc) x refl)
+    (λ k (more, i, e, h, x0). let (j, p, h₁) = is_pair (unsigned 15) i (atom (negative 0) ∷ more) h in let q = is_atom (negative 0) j more h₁ in misread k i (array (u 15 ∷ minus 0 ∷ [])) e (cc) x0 refl)
 
 -- a bignum in range with more than 16 bytes
 abbrev padded : List ℕ
@@ -297,42 +298,42 @@ padded = hex "00 00 00 00 00 00 00 00 00 00 00 00 00 00 00 00 01"
 long_bignum : DecodesTo (0x82 ∷ 0x0F ∷ 0xC2 ∷ 0x51 ∷ padded) (Err (fault.Shape 3))
 long_bignum =
     misfit (0x82 ∷ 0x0F ∷ 0xC2 ∷ 0x51 ∷ padded) (0x51 ∷ padded) [] (before_natural ++ tag 2 ∷ []) (atom (octets padded)) 3
-    (record { begins = refl; sound = (atom (octets []) ∷ [], array (u 15 ∷ tagged 2 (single (octets [])) ∷ []), num 0, refl, refl); unfinished = refl; within = refl }) refl refl
-    (λ k (more, i, e, h, x). misread k i (array (u 15 ∷ tagged 2 (single (octets padded)) ∷ [])) e (bignum_in 15 2 padded i more h) x refl)
+    (record { begins = refl; sound = (atom (octets []) ∷ [], array (u 15 ∷ tagged 2 (single (octets [])) ∷ []), natural 0, refl, refl); unfinished = refl; within = refl }) refl refl
+    (λ k (more, i, e, h, x0). misread k i (array (u 15 ∷ tagged 2 (single (octets padded)) ∷ [])) e (bignum_in 15 2 padded i more h) x0 refl)
 
 -- the tag of CBOR within an expression
 inner_tag : DecodesTo (hex "82 0F D9 D9 F7 01") (Err (fault.Shape 2))
 inner_tag =
     misfit (hex "82 0F D9 D9 F7 01") (hex "D9 D9 F7 01") (hex "01") before_natural (tag 55799) 2 (in_number (hex "82 0F D9 D9 F7 01") (hex "D9 D9 F7 01") 15 refl natural_goes_on) refl refl
-    (λ k (more, i, e, h, x). let (j, p, h₁) = is_pair (unsigned 15) i (tag 55799 ∷ more) h in let (l, q) = is_tagged 55799 j more h₁ in misread k i (array (u 15 ∷ tagged 55799 l ∷ [])) e (cc) x refl)
+    (λ k (more, i, e, h, x0). let (j, p, h₁) = is_pair (unsigned 15) i (tag 55799 ∷ more) h in let (l, q) = is_tagged 55799 j more h₁ in misread k i (array (u 15 ∷ tagged 55799 l ∷ [])) e (cc) x0 refl)
 
 -- a label that stands in a record twice
 abbrev record_start : List Mark
-record_start = head.array 2 ∷ atom (unsigned 8) ∷ head.map 2 ∷ atom (characters x_) ∷ atom (unsigned 1) ∷ []
+record_start = head.array 2 ∷ atom (unsigned 8) ∷ head.map 2 ∷ atom (characters x) ∷ atom (unsigned 1) ∷ []
 
 record_goes_on : CanGoOn false record_start
-record_goes_on = (atom (characters y_) ∷ atom (unsigned 0) ∷ [], array (u 8 ∷ map (t "x" ∷ u 1 ∷ t "y" ∷ u 0 ∷ []) ∷ []), Node (ops.Record (x_ ∷ y_ ∷ [])) (two (variable underscore 1) (variable underscore 0)), refl, refl)
+record_goes_on = (atom (characters y) ∷ atom (unsigned 0) ∷ [], array (u 8 ∷ map (t "x" ∷ u 1 ∷ t "y" ∷ u 0 ∷ []) ∷ []), Node (ops.Record (x ∷ y ∷ [])) (two_parts (var underscore 1) (var underscore 0)), refl, refl)
 
 abbrev repeated : Item → Item
 repeated v = array (u 8 ∷ map (t "x" ∷ u 1 ∷ t "x" ∷ v ∷ []) ∷ [])
 
-by_value : (o : Option Value) → entered (Some x_) (Some (holds (variable underscore 1))) (entered (Some x_) o (Some [])) ≡ None
+by_value : (o : Option Value) → entered (Some x) (Some (holds (var underscore 1))) (entered (Some x) o (Some [])) ≡ None
 by_value None = refl
 by_value (Some v) = refl
 
 repeated_no_record : (k : Bool) (v : Item) → expression k (repeated v) ≡ None
 repeated_no_record k v = rw (by_value (value_of v (part k v).term))
 
-not_repeated : (k : Bool) (more : List Mark) (i : Item) (e : Term) → item_marks i ≡ record_start ++ atom (characters x_) ∷ more → expression k i ≡ Some e → ⊥
-not_repeated k more i e h x =
-    let (j, p, h₁) = is_pair (unsigned 8) i (head.map 2 ∷ atom (characters x_) ∷ atom (unsigned 1) ∷ atom (characters x_) ∷ more) h in
-    let (v, q) = is_map_of_two (characters x_) (unsigned 1) (characters x_) j more h₁ in
-    misread k i (repeated v) e (cc) x (repeated_no_record k v)
+not_repeated : (k : Bool) (more : List Mark) (i : Item) (e : Term) → item_marks i ≡ record_start ++ atom (characters x) ∷ more → expression k i ≡ Some e → ⊥
+not_repeated k more i e h x0 =
+    let (j, p, h₁) = is_pair (unsigned 8) i (head.map 2 ∷ atom (characters x) ∷ atom (unsigned 1) ∷ atom (characters x) ∷ more) h in
+    let (v, q) = is_map_of_two (characters x) (unsigned 1) (characters x) j more h₁ in
+    misread k i (repeated v) e (cc) x0 (repeated_no_record k v)
 
 repeated_label : DecodesTo (hex "82 08 A2 61 78 01 61 78") (Err (fault.Shape 6))
 repeated_label =
-    misfit (hex "82 08 A2 61 78 01 61 78") (hex "61 78") [] record_start (atom (characters x_)) 6 (record { begins = refl; sound = record_goes_on; unfinished = refl; within = refl }) refl refl
-    (λ k (more, i, e, h, x). not_repeated k more i e h x)
+    misfit (hex "82 08 A2 61 78 01 61 78") (hex "61 78") [] record_start (atom (characters x)) 6 (record { begins = refl; sound = record_goes_on; unfinished = refl; within = refl }) refl refl
+    (λ k (more, i, e, h, x0). not_repeated k more i e h x0)
 
 -- ---- bytes left
 

@@ -1,10 +1,9 @@
 pub mod Bytes
 pub mod Command
-pub mod ExampleNodes
-pub mod ExampleTerms
 pub mod Expressions
 pub mod Imports
 pub mod Names
 pub mod Normalising
 pub mod Text
 pub mod Typing
+pub mod Vocabulary

@@ -10,5 +10,5 @@ pub mod LimitExamples
 pub mod NamelessRunExamples
 pub mod NeedsExamples
 pub mod NormalExamples
-pub mod RowTerms
+pub mod Stages
 pub mod StepExamples

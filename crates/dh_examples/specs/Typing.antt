@@ -1,4 +1,5 @@
 pub mod BuiltinTypesExamples
+pub mod Judged
 pub mod NamelessTypingExamples
 pub mod TypeRowExamples
 pub mod TypingExamples
@@ -9,4 +10,3 @@ pub mod TypingExamplesUnions
 pub mod TypingExamplesUnits
 pub mod TypingFaultExamples
 pub mod TypingLimitExamples
-pub mod TypingTerms

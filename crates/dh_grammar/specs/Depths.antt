@@ -3,7 +3,7 @@ use Rattle.std.specs.Prelude.{suc, ◌≤◌, Bool, false, nat_lt, ⊤}
 use Rattle.dh_syntax.specs.declared.tokens.Mark.TheVariants.{BracketClose, Comma}
 use Rattle.dh_syntax.specs.declared.tokens.TokenKind.{TokenKind}
 use Rattle.dh_syntax.specs.declared.tokens.TokenKind.TheVariants as kinds
-use Rattle.dh_syntax.specs.Text.Spelling.{most_open}
+use Rattle.dh_syntax.specs.Limits.{most_open}
 use Rattle.dh_grammar.specs.Machine.{Sorts, State, need, have, wait, done, stopped, depth_on}
 
 -- at most 500 expressions stand open, and one more where its first token is awaited

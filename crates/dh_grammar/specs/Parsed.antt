@@ -6,8 +6,7 @@ use Rattle.dh_syntax.specs.declared.faults.ParseFault.{ParseFault}
 use Rattle.dh_syntax.specs.declared.faults.ParseFault.TheVariants as faults
 use Rattle.dh_syntax.specs.declared.tokens.Token.{Token}
 use Rattle.dh_syntax.specs.Text.Lexing.{LexFault, Bad, Wide, Out, lex}
-use Rattle.dh_syntax.specs.Expressions.Spellable.{most_nesting}
-use Rattle.dh_syntax.specs.Text.Spelling.{most_bytes}
+use Rattle.dh_syntax.specs.Limits.{most_nesting, most_bytes}
 use Rattle.dh_syntax.specs.Expressions.Tree.{Term}
 use Rattle.dh_grammar.specs.Machine.{need}
 use Rattle.dh_grammar.specs.Reading.{Outcome, accepted, unfinished, refused, nested, reading}

@@ -1,7 +1,7 @@
 -- Runs of any of the machines, and what they come to.
 use Rattle.std.specs.Prelude.{ℕ, suc, Bool, true, false, not, nat_lt, ◌||◌, if◌then◌else◌, List, [], ◌∷◌}
 use Rattle.dh_syntax.specs.declared.tokens.Token.{Token}
-use Rattle.dh_syntax.specs.Text.Spelling.{most_open}
+use Rattle.dh_syntax.specs.Limits.{most_open}
 use Rattle.dh_grammar.specs.Making.{Sorts, Making}
 use Rattle.dh_grammar.specs.Machine.{State, done, stopped, after, gap_at, depth_at}
 

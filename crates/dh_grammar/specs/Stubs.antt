@@ -7,7 +7,7 @@ use Rattle.dh_syntax.specs.Text.Derivation.{NameToken, name_label, key_label, Ke
 use Rattle.dh_syntax.specs.Expressions.Levels.{level_of}
 use Rattle.dh_syntax.specs.Text.Meaning.{put, insert, names, values, variable_term, location, sorted, piece_of, text_pieces}
 use Rattle.dh_syntax.specs.declared.expressions.Alt.{Alt}
-use Rattle.dh_syntax.specs.Expressions.Spellable.{most_nesting}
+use Rattle.dh_syntax.specs.Limits.{most_nesting}
 use Rattle.dh_syntax.specs.Expressions.Tree.{Row, Node, end, kid, Name, Var, Term}
 use Rattle.dh_grammar.specs.Making.{Sorts, Making}
 use Rattle.dh_grammar.specs.Inside.Terms.{and_part, so_far}

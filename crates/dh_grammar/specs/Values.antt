@@ -8,7 +8,7 @@ use Rattle.dh_syntax.specs.declared.tokens.TokenKind.{TokenKind}
 use Rattle.dh_syntax.specs.declared.tokens.TokenKind.TheVariants as kinds
 use Rattle.dh_syntax.specs.Expressions.Arity.{loc_fits}
 use Rattle.dh_syntax.specs.Text.Lexing.{Before, is_wide_index, before_after}
-use Rattle.dh_syntax.specs.Text.Numerals.{natural_fits, integer_fits}
+use Rattle.dh_syntax.specs.Limits.{natural_fits, integer_fits}
 use Rattle.dh_syntax.specs.Expressions.Spellable.{is_label, is_environment, location_spellable}
 use Rattle.dh_syntax.specs.Expressions.Tree.{Row, Leaf, Node, end, kid, Name, Var, Term}
 use Rattle.dh_syntax.specs.Text.Yield.{Written}

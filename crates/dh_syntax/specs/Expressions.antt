@@ -13,3 +13,4 @@ pub mod SameTree
 pub mod Spellable
 pub mod Tree
 pub mod Views
+pub mod Values

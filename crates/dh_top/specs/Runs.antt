@@ -1,5 +1,5 @@
 -- What one run of the command does to its input and to its two outputs.
-use Rattle.std.specs.Prelude.{◌≡◌, ℕ, ◌<◌, ◌⊎◌, List, [], length, take, Option, IfSome, Result, Ok, Err, IsErr}
+use Rattle.std.specs.Prelude.{◌≡◌, ℕ, suc, ◌<◌, ◌⊎◌, List, [], length, take, Option, IfSome, Result, Ok, Err, IsErr}
 use Rattle.std.specs.Io.{StartsWith}
 use Rattle.std.specs.Io.KnownBytes.{Appends, Consumes, Keeps}
 use Rattle.dh_ports.specs.Counts.{Rose}
@@ -8,6 +8,7 @@ use Rattle.dh_syntax.specs.declared.statuses.Status.{Status}
 use Rattle.dh_syntax.specs.declared.statuses.Status.TheVariants as status
 use Rattle.dh_syntax.specs.Command.Answer.{Written, Answer, line, unread, without_memory}
 use Rattle.dh_syntax.specs.Command.FaultLines.{read_line, write_line}
+use Rattle.dh_syntax.specs.Limits.{most_bytes}
 use Rattle.dh_syntax.specs.Expressions.Tree.{Term}
 use Rattle.dh_syntax.specs.Command.Words.{Word, Verb, command_of}
 
@@ -33,7 +34,7 @@ reading before after faults_before faults_after = record { before = before; afte
 
 -- at most so many bytes are read, one more than a text may have
 abbrev pub most_read : ℕ
-most_read = 1048577
+most_read = suc most_bytes
 
 -- no read of the input failed and was counted
 abbrev pub IsQuiet : Input → Type 0

@@ -8,17 +8,17 @@ use Rattle.dh_syntax.specs.declared.locations.Mode.TheVariants as modes
 use Rattle.dh_syntax.specs.declared.operators.BinOp.TheVariants as bins
 use Rattle.dh_syntax.specs.declared.operators.Builtin.TheVariants as builtins
 use Rattle.dh_syntax.specs.Expressions.Arity.{fits, loc_fits}
-use Rattle.dh_examples.specs.ExampleNodes.{x_, y_, x, typed, untyped}
+use Rattle.dh_examples.specs.Vocabulary.{typed, untyped, x, x0, y}
 use Rattle.dh_syntax.specs.Expressions.Tree.{Row, end, kid, Name, Var}
 
 -- so many parts, and so many with one more under a binder
 abbrev plain : ℕ → Row Var Name
 plain zero = end
-plain (suc n) = kid None x (plain n)
+plain (suc n) = kid None x0 (plain n)
 
 abbrev binding : ℕ → Row Var Name
-binding zero = kid (Some x_) x end
-binding (suc n) = kid None x (binding n)
+binding zero = kid (Some x) x0 end
+binding (suc n) = kid None x0 (binding n)
 
 -- whether a node may have no part, one, two, three and four, and one under a binder with none, one and two before it
 abbrev allowed : Op → List Bool
@@ -31,20 +31,20 @@ abbrev missing : Op
 missing = ops.Import (record { loc = locs.Missing; mode = modes.Code; digest = None })
 
 no_part :
-    AllAllow (ops.Builtin builtins.Sort ∷ ops.Bool true ∷ ops.Nat 1 ∷ ops.Int (pos 1) ∷ ops.Text (x_ ∷ []) ∷ missing ∷ ops.RecordType [] ∷ ops.Record [] ∷ ops.Union []
-    ∷ ops.Union (untyped x_ ∷ untyped y_ ∷ []) ∷ [])
+    AllAllow (ops.Builtin builtins.Sort ∷ ops.Bool true ∷ ops.Nat 1 ∷ ops.Int (pos 1) ∷ ops.Text (x ∷ []) ∷ missing ∷ ops.RecordType [] ∷ ops.Record [] ∷ ops.Union []
+    ∷ ops.Union (untyped x ∷ untyped y ∷ []) ∷ [])
     (true ∷ false ∷ false ∷ false ∷ false ∷ false ∷ false ∷ false ∷ [])
 no_part = refl
 
 one_part :
-    AllAllow (ops.Text (x_ ∷ y_ ∷ []) ∷ ops.EmptyList ∷ ops.Some ∷ ops.RecordType (x_ ∷ []) ∷ ops.Record (x_ ∷ []) ∷ ops.Field x_ ∷ ops.Project [] ∷ ops.Project (x_ ∷ y_ ∷ [])
-    ∷ ops.Union (untyped x_ ∷ typed y_ ∷ []) ∷ ops.Assert ∷ ops.ToMap false ∷ [])
+    AllAllow (ops.Text (x ∷ y ∷ []) ∷ ops.EmptyList ∷ ops.Some ∷ ops.RecordType (x ∷ []) ∷ ops.Record (x ∷ []) ∷ ops.Field x ∷ ops.Project [] ∷ ops.Project (x ∷ y ∷ [])
+    ∷ ops.Union (untyped x ∷ typed y ∷ []) ∷ ops.Assert ∷ ops.ToMap false ∷ [])
     (false ∷ true ∷ false ∷ false ∷ false ∷ false ∷ false ∷ false ∷ [])
 one_part = refl
 
 two_parts :
-    AllAllow (ops.Text (x_ ∷ [] ∷ [] ∷ []) ∷ ops.App ∷ ops.Bin bins.Plus ∷ ops.Merge false ∷ ops.RecordType (x_ ∷ y_ ∷ []) ∷ ops.Record (x_ ∷ y_ ∷ []) ∷ ops.ProjectType
-    ∷ ops.Union (typed x_ ∷ typed y_ ∷ []) ∷ ops.Annot ∷ ops.ToMap true ∷ ops.With (x_ ∷ []) ∷ ops.With (y_ ∷ x_ ∷ y_ ∷ []) ∷ [])
+    AllAllow (ops.Text (x ∷ [] ∷ [] ∷ []) ∷ ops.App ∷ ops.Bin bins.Plus ∷ ops.Merge false ∷ ops.RecordType (x ∷ y ∷ []) ∷ ops.Record (x ∷ y ∷ []) ∷ ops.ProjectType
+    ∷ ops.Union (typed x ∷ typed y ∷ []) ∷ ops.Annot ∷ ops.ToMap true ∷ ops.With (x ∷ []) ∷ ops.With (y ∷ x ∷ y ∷ []) ∷ [])
     (false ∷ false ∷ true ∷ false ∷ false ∷ false ∷ false ∷ false ∷ [])
 two_parts = refl
 
@@ -62,7 +62,7 @@ two_parts_and_a_body = refl
 
 -- the labels of records, projections and unions ascend, an update has one or more, a text has a piece, a path a component
 never :
-    AllAllow (ops.RecordType (y_ ∷ x_ ∷ []) ∷ ops.Record (x_ ∷ x_ ∷ []) ∷ ops.Project (y_ ∷ x_ ∷ []) ∷ ops.Union (untyped y_ ∷ untyped x_ ∷ []) ∷ ops.With [] ∷ ops.Text []
+    AllAllow (ops.RecordType (y ∷ x ∷ []) ∷ ops.Record (x ∷ x ∷ []) ∷ ops.Project (y ∷ x ∷ []) ∷ ops.Union (untyped y ∷ untyped x ∷ []) ∷ ops.With [] ∷ ops.Text []
     ∷ ops.Import (record { loc = locs.Here []; mode = modes.Code; digest = None }) ∷ [])
     (false ∷ false ∷ false ∷ false ∷ false ∷ false ∷ false ∷ false ∷ [])
 never = refl
@@ -79,6 +79,6 @@ paths_have_components :
 paths_have_components = refl
 
 locations_fit :
-    map loc_fits (locs.Abs (x_ ∷ []) ∷ locs.Here (x_ ∷ []) ∷ locs.Parent (x_ ∷ []) ∷ locs.Home (x_ ∷ []) ∷ at_host ([] ∷ []) ∷ at_secure_host (x_ ∷ y_ ∷ []) ∷ locs.Env [] ∷ locs.Missing ∷ [])
+    map loc_fits (locs.Abs (x ∷ []) ∷ locs.Here (x ∷ []) ∷ locs.Parent (x ∷ []) ∷ locs.Home (x ∷ []) ∷ at_host ([] ∷ []) ∷ at_secure_host (x ∷ y ∷ []) ∷ locs.Env [] ∷ locs.Missing ∷ [])
     ≡ true ∷ true ∷ true ∷ true ∷ true ∷ true ∷ true ∷ true ∷ []
 locations_fit = refl

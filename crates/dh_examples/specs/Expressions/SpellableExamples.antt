@@ -5,9 +5,12 @@ use Rattle.dh_syntax.specs.declared.expressions.Op.TheVariants as ops
 use Rattle.dh_syntax.specs.declared.locations.Loc.TheVariants as locs
 use Rattle.dh_syntax.specs.declared.locations.Mode.TheVariants as modes
 use Rattle.dh_syntax.specs.declared.locations.Url.{Url}
-use Rattle.dh_examples.specs.ExampleNodes.{x_, variable, x, num, app, some, lam, typed, untyped}
 use Rattle.dh_syntax.specs.Expressions.Nesting.{nesting}
-use Rattle.dh_syntax.specs.Expressions.Spellable.{most_nesting, most_index, is_label, is_component, is_environment, is_segment, is_query, is_host, location_spellable, op_spellable, names_spellable}
+use Rattle.dh_syntax.specs.Expressions.Spellable.{is_label, is_component, is_environment, is_segment, is_query, is_host, location_spellable, op_spellable, names_spellable}
+use Rattle.dh_syntax.specs.Limits.{most_nesting}
+use Rattle.dh_syntax.specs.Limits.{most_index}
+use Rattle.dh_examples.specs.Vocabulary.{typed, untyped, var, x, x0}
+use Rattle.dh_syntax.specs.Expressions.Forms.{app, lambda, natural, some}
 use Rattle.dh_syntax.specs.Expressions.Tree.{Node, end, Name}
 
 abbrev AllPass : (List ℕ → Bool) → List String → Type 0
@@ -21,7 +24,7 @@ limits = refl
 
 -- what has no parts nests 0 deep, with an empty list of parts too; the deepest part counts, wherever it stands
 nested :
-    map nesting (x ∷ num 0 ∷ Node (ops.Record []) end ∷ some x ∷ app x (num 0) ∷ app (some x) x ∷ app x (some x) ∷ lam x_ x (app (some x) x) ∷ [])
+    map nesting (x0 ∷ natural 0 ∷ Node (ops.Record []) end ∷ some x0 ∷ app x0 (natural 0) ∷ app (some x0) x0 ∷ app x0 (some x0) ∷ lambda x x0 (app (some x0) x0) ∷ [])
     ≡ 0 ∷ 0 ∷ 0 ∷ 1 ∷ 1 ∷ 2 ∷ 2 ∷ 3 ∷ []
 nested = refl
 
@@ -70,13 +73,13 @@ web host component query = record { host = codes host; comps = codes component �
 
 -- an empty component is one of a URL alone
 locations :
-    map location_spellable (locs.Abs (x_ ∷ []) ∷ locs.Here (x_ ∷ []) ∷ locs.Parent (x_ ∷ []) ∷ locs.Home (x_ ∷ []) ∷ locs.Http (web "h" "" None)
-    ∷ locs.Https (web "h" "x" (Some (codes "q"))) ∷ locs.Env x_ ∷ locs.Missing ∷ [])
+    map location_spellable (locs.Abs (x ∷ []) ∷ locs.Here (x ∷ []) ∷ locs.Parent (x ∷ []) ∷ locs.Home (x ∷ []) ∷ locs.Http (web "h" "" None)
+    ∷ locs.Https (web "h" "x" (Some (codes "q"))) ∷ locs.Env x ∷ locs.Missing ∷ [])
     ≡ true ∷ true ∷ true ∷ true ∷ true ∷ true ∷ true ∷ true ∷ []
 locations = refl
 
 no_locations :
-    map location_spellable (locs.Abs (x_ ∷ [] ∷ []) ∷ locs.Here ([] ∷ x_ ∷ []) ∷ locs.Parent ([] ∷ []) ∷ locs.Home ([] ∷ []) ∷ locs.Http (web "-" "x" None)
+    map location_spellable (locs.Abs (x ∷ [] ∷ []) ∷ locs.Here ([] ∷ x ∷ []) ∷ locs.Parent ([] ∷ []) ∷ locs.Home ([] ∷ []) ∷ locs.Http (web "-" "x" None)
     ∷ locs.Http (web "h" "," None) ∷ locs.Https (web "h" "x" (Some (codes "#"))) ∷ locs.Https (web "" "x" None) ∷ locs.Env [] ∷ [])
     ≡ false ∷ false ∷ false ∷ false ∷ false ∷ false ∷ false ∷ false ∷ false ∷ []
 no_locations = refl
@@ -88,25 +91,25 @@ abbrev bad : Name
 bad = codes "`"
 
 no_nodes :
-    map op_spellable (ops.Import (record { loc = locs.Env []; mode = modes.Code; digest = None }) ∷ ops.RecordType (x_ ∷ bad ∷ []) ∷ ops.Record (bad ∷ []) ∷ ops.Field bad
-    ∷ ops.Project (bad ∷ x_ ∷ []) ∷ ops.Union (typed x_ ∷ untyped bad ∷ []) ∷ ops.With (x_ ∷ bad ∷ []) ∷ [])
+    map op_spellable (ops.Import (record { loc = locs.Env []; mode = modes.Code; digest = None }) ∷ ops.RecordType (x ∷ bad ∷ []) ∷ ops.Record (bad ∷ []) ∷ ops.Field bad
+    ∷ ops.Project (bad ∷ x ∷ []) ∷ ops.Union (typed x ∷ untyped bad ∷ []) ∷ ops.With (x ∷ bad ∷ []) ∷ [])
     ≡ false ∷ false ∷ false ∷ false ∷ false ∷ false ∷ false ∷ []
 no_nodes = refl
 
 -- any bytes may stand in a text
 nodes :
-    map op_spellable (ops.Text (bad ∷ codes "\t" ∷ []) ∷ ops.Nat 0 ∷ ops.Int (pos 0) ∷ ops.Import (record { loc = locs.Missing; mode = modes.Code; digest = None }) ∷ ops.RecordType [] ∷ ops.Record (x_ ∷ [])
-    ∷ ops.Field [] ∷ ops.Project [] ∷ ops.Union (untyped x_ ∷ []) ∷ ops.With (x_ ∷ x_ ∷ []) ∷ [])
+    map op_spellable (ops.Text (bad ∷ codes "\t" ∷ []) ∷ ops.Nat 0 ∷ ops.Int (pos 0) ∷ ops.Import (record { loc = locs.Missing; mode = modes.Code; digest = None }) ∷ ops.RecordType [] ∷ ops.Record (x ∷ [])
+    ∷ ops.Field [] ∷ ops.Project [] ∷ ops.Union (untyped x ∷ []) ∷ ops.With (x ∷ x ∷ []) ∷ [])
     ≡ true ∷ true ∷ true ∷ true ∷ true ∷ true ∷ true ∷ true ∷ true ∷ true ∷ []
 nodes = refl
 
 variables :
-    map names_spellable (variable x_ 2147483647 ∷ variable [] 0 ∷ variable x_ 2147483648 ∷ variable bad 0 ∷ [])
+    map names_spellable (var x 2147483647 ∷ var [] 0 ∷ var x 2147483648 ∷ var bad 0 ∷ [])
     ≡ true ∷ true ∷ false ∷ false ∷ []
 variables = refl
 
 -- each part and each binder counts
 in_parts :
-    map names_spellable (app x x ∷ app (variable bad 0) x ∷ app x (variable bad 0) ∷ lam x_ x x ∷ lam bad x x ∷ [])
+    map names_spellable (app x0 x0 ∷ app (var bad 0) x0 ∷ app x0 (var bad 0) ∷ lambda x x0 x0 ∷ lambda bad x0 x0 ∷ [])
     ≡ true ∷ false ∷ false ∷ true ∷ false ∷ []
 in_parts = refl

@@ -2,8 +2,9 @@
 use Rattle.std.specs.Prelude.{◌≡◌, refl}
 use Rattle.dh_syntax.specs.declared.operators.BinOp.TheVariants as bins
 use Rattle.dh_syntax.specs.Normalising.Contraction.{Nothing, Gives, IfSame}
+use Rattle.dh_examples.specs.Normalising.Stages.{at}
+use Rattle.dh_examples.specs.Vocabulary.{false_literal, p, q, r, true_literal}
 use Rattle.dh_syntax.specs.Expressions.Forms.{if_else, operator}
-use Rattle.dh_examples.specs.Normalising.RowTerms.{at, p, q, r, true_literal, false_literal}
 
 -- `if True then p else q`, where the condition is not headed yet and where it is
 if_unheaded : at 0 (if_else true_literal p q) ≡ Nothing

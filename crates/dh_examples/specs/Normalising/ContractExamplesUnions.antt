@@ -3,7 +3,8 @@ use Rattle.std.specs.Prelude.{◌≡◌, refl, true, false, [], ◌∷◌, codes
 use Rattle.dh_syntax.specs.declared.expressions.Op.TheVariants as ops
 use Rattle.dh_syntax.specs.Normalising.Contraction.{Nothing, Gives}
 use Rattle.dh_syntax.specs.Expressions.Forms.{plain_text, app, list, empty_list, some, none, union, field, merge, record_literal, to_map, to_map_typed, plain_row}
-use Rattle.dh_examples.specs.Normalising.RowTerms.{at, a, b, p, q, r, natural_type, no_fields, with_both}
+use Rattle.dh_examples.specs.Normalising.Stages.{at}
+use Rattle.dh_examples.specs.Vocabulary.{a, b, natural_type, no_fields, p, q, r, with_both}
 use Rattle.dh_syntax.specs.Expressions.Tree.{Node, Term}
 
 -- ---- merge

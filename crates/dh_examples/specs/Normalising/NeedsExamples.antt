@@ -2,10 +2,9 @@
 use Rattle.std.specs.Prelude.{◌≡◌, refl, [], ◌∷◌, map, replicate}
 use Rattle.dh_syntax.specs.declared.operators.BinOp.TheVariants as bins
 use Rattle.dh_syntax.specs.declared.operators.Builtin.TheVariants as builtins
-use Rattle.dh_examples.specs.ExampleTerms.{x}
 use Rattle.dh_syntax.specs.Expressions.Forms.{natural, text, operator, if_else, app, call, lambda, let_in, list, merge, field, projection, projection_by_type, update, to_map}
+use Rattle.dh_examples.specs.Vocabulary.{a, natural_type, p, q, r, x}
 use Rattle.dh_syntax.specs.Normalising.Needs.{needs, at, set, part, argument}
-use Rattle.dh_examples.specs.Normalising.RowTerms.{a, p, q, r, natural_type}
 
 -- `if p then q else r`
 if_needs : needs (if_else p q r) ≡ part 0 ∷ part 1 ∷ part 2 ∷ []

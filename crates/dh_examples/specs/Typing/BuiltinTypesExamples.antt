@@ -15,7 +15,7 @@ use Rattle.dh_syntax.specs.Text.Printed.{text_of}
 use Rattle.dh_syntax.specs.Expressions.SameTree.{term_eq}
 use Rattle.dh_syntax.specs.Expressions.Tree.{Term}
 use Rattle.dh_syntax.specs.Typing.TypeViews.{each}
-use Rattle.dh_examples.specs.Typing.TypingTerms.{inferred, type_in}
+use Rattle.dh_examples.specs.Typing.Judged.{inferred, type_in}
 use Rattle.dh_syntax.specs.Typing.Universes.{as_universe}
 
 -- the functions among the built-ins

@@ -3,15 +3,14 @@ use Rattle.std.specs.Prelude.{◌≡◌, refl, [], ◌∷◌, Some, codes}
 use Rattle.dh_syntax.specs.declared.operators.BinOp.TheVariants as bins
 use Rattle.dh_syntax.specs.declared.operators.Builtin.TheVariants as builtins
 use Rattle.dh_syntax.specs.Names.Alpha.{alpha}
-use Rattle.dh_examples.specs.ExampleTerms.{x, y, var}
 use Rattle.dh_syntax.specs.Expressions.Forms.{natural, text, plain_text, operator, if_else, app, apply, call, lambda, forall, let_in, list, empty_list, list_type, record_type, record_literal, field, union, merge, to_map, update}
 use Rattle.dh_syntax.specs.Normalising.Heads.{Answer, Found}
 use Rattle.dh_syntax.specs.Normalising.Named.{names}
 use Rattle.dh_syntax.specs.Expressions.Nesting.{nesting}
 use Rattle.dh_syntax.specs.Normalising.Normal.{plain_answer}
-use Rattle.dh_examples.specs.Normalising.RowTerms.{a, b}
+use Rattle.dh_examples.specs.Typing.Judged.{at, at_root, refused, type_of}
+use Rattle.dh_examples.specs.Vocabulary.{a, assert, b, bool_type, equivalent, letter, natural_type, one, plus, sort, text_type, true_literal, two, type, typed, untyped, var, with_field, with_type, x, y, ◌⟶◌}
 use Rattle.dh_syntax.specs.Expressions.Tree.{Name, Term}
-use Rattle.dh_examples.specs.Typing.TypingTerms.{type_of, refused, at, at_root, type, sort, bool_type, natural_type, text_type, one, two, yes', letter, ◌⟶◌, plus, equivalent, assert, empty, holding, with_type, with_field}
 
 -- ---- types
 
@@ -26,7 +25,7 @@ holds = refl
 
 -- `merge { A = 1, B = λ(b : Bool) → 2 } (< A | B : Bool >.B True)`
 merged : type_of (merge (record_literal ((codes "A", one) ∷ (codes "B", lambda b bool_type two) ∷ []))
-    (app (field (union (empty (codes "A") ∷ holding (codes "B") ∷ []) (bool_type ∷ [])) (codes "B")) yes'))
+    (app (field (union (untyped (codes "A") ∷ typed (codes "B") ∷ []) (bool_type ∷ [])) (codes "B")) true_literal))
     ≡ Some natural_type
 unfolding alpha
 merged = refl
@@ -69,12 +68,12 @@ unfolding alpha
 map = refl
 
 -- `({ a = 1 } with b.c = True).b`
-updated : type_of (field (update (with_field a one) (b ∷ codes "c" ∷ []) yes') b) ≡ Some (with_type (codes "c") bool_type)
+updated : type_of (field (update (with_field a one) (b ∷ codes "c" ∷ []) true_literal) b) ≡ Some (with_type (codes "c") bool_type)
 updated = refl
 
 -- `< Environment : Text | Local : Text | Missing | Remote : Text >.Remote "t"`
 abbrev location : Term
-location = union (holding (codes "Environment") ∷ holding (codes "Local") ∷ empty (codes "Missing") ∷ holding (codes "Remote") ∷ []) (text_type ∷ text_type ∷ text_type ∷ [])
+location = union (typed (codes "Environment") ∷ typed (codes "Local") ∷ untyped (codes "Missing") ∷ typed (codes "Remote") ∷ []) (text_type ∷ text_type ∷ text_type ∷ [])
 
 located : type_of (app (field location (codes "Remote")) letter) ≡ Some location
 unfolding alpha
@@ -96,16 +95,16 @@ sort_elements : refused (empty_list sort) ≡ at_root 15
 sort_elements = refl
 
 -- `1 + True`, `[ 1 + True ]`, `λ(x : Bool) → x + 1`, `let x = 1 in x && True`
-plus_bool : refused (plus one yes') ≡ at_root 14
+plus_bool : refused (plus one true_literal) ≡ at_root 14
 plus_bool = refl
 
-plus_bool_inside : refused (list (plus one yes' ∷ [])) ≡ at (0 ∷ []) 14
+plus_bool_inside : refused (list (plus one true_literal ∷ [])) ≡ at (0 ∷ []) 14
 plus_bool_inside = refl
 
 plus_below : refused (lambda x bool_type (plus (var x 0) one)) ≡ at (1 ∷ []) 13
 plus_below = refl
 
-and_natural : refused (let_in x one (operator bins.And (var x 0) yes')) ≡ at (1 ∷ []) 13
+and_natural : refused (let_in x one (operator bins.And (var x 0) true_literal)) ≡ at (1 ∷ []) 13
 and_natural = refl
 
 -- `assert : 1 + 1 ≡ 3`
@@ -131,7 +130,7 @@ role = codes "role"
 
 -- `< Admin | User : Natural >`
 abbrev role_type : Term
-role_type = union (empty (codes "Admin") ∷ holding (codes "User") ∷ []) (natural_type ∷ [])
+role_type = union (untyped (codes "Admin") ∷ typed (codes "User") ∷ []) (natural_type ∷ [])
 
 -- `{ name : Text, role : < Admin | User : Natural > }`
 abbrev person_type : Term

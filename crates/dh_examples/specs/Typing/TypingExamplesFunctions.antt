@@ -2,9 +2,9 @@
 use Rattle.std.specs.Prelude.{◌≡◌, refl, [], ◌∷◌, Some, codes}
 use Rattle.dh_syntax.specs.declared.operators.Builtin.TheVariants as builtins
 use Rattle.dh_syntax.specs.Names.Alpha.{alpha}
-use Rattle.dh_examples.specs.ExampleTerms.{x, y, var}
+use Rattle.dh_examples.specs.Typing.Judged.{at, at_root, refused, type_of}
+use Rattle.dh_examples.specs.Vocabulary.{bool_type, kind, natural_type, one, optional_type, plus, sort, text_type, true_literal, type, var, x, y, ◌⟶◌}
 use Rattle.dh_syntax.specs.Expressions.Forms.{app, call, lambda, forall, let_in, let_typed, list_type}
-use Rattle.dh_examples.specs.Typing.TypingTerms.{type_of, refused, at, at_root, type, kind, sort, bool_type, natural_type, text_type, one, yes', ◌⟶◌, optional_type, plus}
 
 -- ---- 1, 2: variables and constants
 
@@ -103,7 +103,7 @@ kind_result = refl
 forall_domain : refused (forall x one natural_type) ≡ at_root 5
 forall_domain = refl
 
-forall_domain_ill : refused (forall x (plus one yes') natural_type) ≡ at (0 ∷ []) 14
+forall_domain_ill : refused (forall x (plus one true_literal) natural_type) ≡ at (0 ∷ []) 14
 forall_domain_ill = refl
 
 -- `∀(x : (λ(y : Kind) → y) Type) → x`
@@ -112,7 +112,7 @@ unfolding alpha
 forall_domain_found = refl
 
 -- `∀(x : Bool) → 1 + True`
-forall_range_ill : refused (forall x bool_type (plus one yes')) ≡ at (1 ∷ []) 14
+forall_range_ill : refused (forall x bool_type (plus one true_literal)) ≡ at (1 ∷ []) 14
 forall_range_ill = refl
 
 forall_range : refused (forall x bool_type (var x 0)) ≡ at_root 6
@@ -138,15 +138,15 @@ put_in = refl
 no_function : refused (app one one) ≡ at_root 7
 no_function = refl
 
-wrong_argument : refused (app (lambda x natural_type (var x 0)) yes') ≡ at_root 8
+wrong_argument : refused (app (lambda x natural_type (var x 0)) true_literal) ≡ at_root 8
 unfolding alpha
 wrong_argument = refl
 
 -- the function is typed before the argument, and both before the check
-ill_function : refused (app (plus one yes') (plus one yes')) ≡ at (0 ∷ []) 14
+ill_function : refused (app (plus one true_literal) (plus one true_literal)) ≡ at (0 ∷ []) 14
 ill_function = refl
 
-ill_argument : refused (app one (plus one yes')) ≡ at (1 ∷ []) 14
+ill_argument : refused (app one (plus one true_literal)) ≡ at (1 ∷ []) 14
 ill_argument = refl
 
 -- the types of bound variables may differ in their names: `(λ(f : ∀(x : Bool) → Bool) → f) (λ(y : Bool) → y)`
@@ -176,14 +176,14 @@ let_differs : refused (let_typed x bool_type one (var x 0)) ≡ at_root 9
 unfolding alpha
 let_differs = refl
 
-let_annotation_ill : refused (let_typed x (plus one yes') (plus one yes') (var x 0)) ≡ at (0 ∷ []) 14
+let_annotation_ill : refused (let_typed x (plus one true_literal) (plus one true_literal) (var x 0)) ≡ at (0 ∷ []) 14
 let_annotation_ill = refl
 
-let_value_ill : refused (let_typed x bool_type (plus one yes') (var x 0)) ≡ at (1 ∷ []) 14
+let_value_ill : refused (let_typed x bool_type (plus one true_literal) (var x 0)) ≡ at (1 ∷ []) 14
 let_value_ill = refl
 
 -- the value is typed even where its variable is not used
-let_unused_ill : refused (let_in x (plus one yes') one) ≡ at (0 ∷ []) 14
+let_unused_ill : refused (let_in x (plus one true_literal) one) ≡ at (0 ∷ []) 14
 let_unused_ill = refl
 
 -- `let f = λ(x : Natural) → x in λ(f : Bool) → f@1 1` has the type `∀(f : Bool) → Natural`
@@ -193,9 +193,9 @@ unfolding alpha
 let_past_binder = refl
 
 -- `let x = 1 in let y = True in y + x`: a place below a `let` is one of its body
-let_path : refused (let_in x one (let_in y yes' (plus (var y 0) (var x 0)))) ≡ at (1 ∷ 1 ∷ []) 13
+let_path : refused (let_in x one (let_in y true_literal (plus (var y 0) (var x 0)))) ≡ at (1 ∷ 1 ∷ []) 13
 let_path = refl
 
-let_path_annotated : refused (let_typed x natural_type one (plus (var x 0) yes')) ≡ at (2 ∷ []) 14
+let_path_annotated : refused (let_typed x natural_type one (plus (var x 0) true_literal)) ≡ at (2 ∷ []) 14
 unfolding alpha
 let_path_annotated = refl

@@ -4,12 +4,12 @@ use Rattle.std.specs.Prelude.{◌≡◌, refl, pos, [], ◌∷◌, Some, codes}
 use Rattle.dh_syntax.specs.declared.operators.BinOp.TheVariants as bins
 use Rattle.dh_syntax.specs.declared.operators.Builtin.TheVariants as builtins
 use Rattle.dh_syntax.specs.Names.Alpha.{alpha}
-use Rattle.dh_examples.specs.ExampleTerms.{x, y, var}
 use Rattle.dh_syntax.specs.Expressions.Forms.{natural, integer, text, builtin, operator, if_else, lambda, forall, let_in, list, empty_list, list_type, some, annotation}
 use Rattle.dh_syntax.specs.Typing.Inference.{Ill}
 use Rattle.dh_syntax.specs.Typing.NamedTyping.{infer}
+use Rattle.dh_examples.specs.Typing.Judged.{at, at_root, refused, type_of}
+use Rattle.dh_examples.specs.Vocabulary.{assert, bool_type, equivalent, kind, letter, natural_type, one, optional_type, plus, sort, text_type, true_literal, two, type, var, x, y}
 use Rattle.dh_syntax.specs.Typing.TypeRules as rule
-use Rattle.dh_examples.specs.Typing.TypingTerms.{type_of, refused, at, at_root, type, kind, sort, bool_type, natural_type, text_type, one, two, yes', letter, optional_type, plus, equivalent, assert}
 
 -- ---- literals
 
@@ -19,12 +19,12 @@ natural_literal = refl
 integer_literal : type_of (integer (pos 1)) ≡ Some (builtin builtins.Integer)
 integer_literal = refl
 
-bool_literal : type_of yes' ≡ Some bool_type
+bool_literal : type_of true_literal ≡ Some bool_type
 bool_literal = refl
 
 -- ---- 10, 11, 12: `if`
 
-if_value : type_of (if_else yes' one two) ≡ Some natural_type
+if_value : type_of (if_else true_literal one two) ≡ Some natural_type
 unfolding alpha
 if_value = refl
 
@@ -32,45 +32,45 @@ if_condition : refused (if_else one one two) ≡ at_root 10
 if_condition = refl
 
 -- `if True then Natural else Bool`
-if_types : refused (if_else yes' natural_type bool_type) ≡ at_root 11
+if_types : refused (if_else true_literal natural_type bool_type) ≡ at_root 11
 if_types = refl
 
 -- `if True then Kind else Kind`
-if_kinds : refused (if_else yes' kind kind) ≡ at_root 11
+if_kinds : refused (if_else true_literal kind kind) ≡ at_root 11
 if_kinds = refl
 
-if_differ : refused (if_else yes' one letter) ≡ at_root 12
+if_differ : refused (if_else true_literal one letter) ≡ at_root 12
 unfolding alpha
 if_differ = refl
 
 -- the first branch is the one that must be in Type, and that is asked before they are compared
-if_first_type : refused (if_else yes' natural_type one) ≡ at_root 11
+if_first_type : refused (if_else true_literal natural_type one) ≡ at_root 11
 if_first_type = refl
 
-if_second_type : refused (if_else yes' one natural_type) ≡ at_root 12
+if_second_type : refused (if_else true_literal one natural_type) ≡ at_root 12
 unfolding alpha
 if_second_type = refl
 
 -- of two types that differ only in names the first one: `if True then λ(x : Bool) → x else λ(y : Bool) → y`
-if_names : type_of (if_else yes' (lambda x bool_type (var x 0)) (lambda y bool_type (var y 0))) ≡ Some (forall x bool_type bool_type)
+if_names : type_of (if_else true_literal (lambda x bool_type (var x 0)) (lambda y bool_type (var y 0))) ≡ Some (forall x bool_type bool_type)
 unfolding alpha
 if_names = refl
 
-if_part_ill : refused (if_else one one (plus one yes')) ≡ at (2 ∷ []) 14
+if_part_ill : refused (if_else one one (plus one true_literal)) ≡ at (2 ∷ []) 14
 if_part_ill = refl
 
 -- ---- 13, 14: operators
 
-or_bool : type_of (operator bins.Or yes' yes') ≡ Some bool_type
+or_bool : type_of (operator bins.Or true_literal true_literal) ≡ Some bool_type
 or_bool = refl
 
-and_bool : type_of (operator bins.And yes' yes') ≡ Some bool_type
+and_bool : type_of (operator bins.And true_literal true_literal) ≡ Some bool_type
 and_bool = refl
 
-equal_bool : type_of (operator bins.Equal yes' yes') ≡ Some bool_type
+equal_bool : type_of (operator bins.Equal true_literal true_literal) ≡ Some bool_type
 equal_bool = refl
 
-not_equal_bool : type_of (operator bins.NotEqual yes' yes') ≡ Some bool_type
+not_equal_bool : type_of (operator bins.NotEqual true_literal true_literal) ≡ Some bool_type
 not_equal_bool = refl
 
 plus_natural : type_of (plus one two) ≡ Some natural_type
@@ -86,17 +86,17 @@ append_lists : type_of (operator bins.ListAppend (list (one ∷ [])) (empty_list
 unfolding alpha
 append_lists = refl
 
-or_left : refused (operator bins.Or one yes') ≡ at_root 13
+or_left : refused (operator bins.Or one true_literal) ≡ at_root 13
 or_left = refl
 
-and_right : refused (operator bins.And yes' one) ≡ at_root 14
+and_right : refused (operator bins.And true_literal one) ≡ at_root 14
 and_right = refl
 
-plus_left : refused (plus yes' one) ≡ at_root 13
+plus_left : refused (plus true_literal one) ≡ at_root 13
 plus_left = refl
 
 -- `1 + True`
-plus_right : refused (plus one yes') ≡ at_root 14
+plus_right : refused (plus one true_literal) ≡ at_root 14
 plus_right = refl
 
 times_right : refused (operator bins.Times one (integer (pos 1))) ≡ at_root 14
@@ -109,12 +109,12 @@ append_lists_left : refused (operator bins.ListAppend one (list (one ∷ []))) �
 unfolding alpha
 append_lists_left = refl
 
-append_lists_right : refused (operator bins.ListAppend (list (one ∷ [])) (list (yes' ∷ []))) ≡ at_root 14
+append_lists_right : refused (operator bins.ListAppend (list (one ∷ [])) (list (true_literal ∷ []))) ≡ at_root 14
 unfolding alpha
 append_lists_right = refl
 
 -- where both sides are wrong the left one is refused
-plus_both : refused (plus yes' yes') ≡ at_root 13
+plus_both : refused (plus true_literal true_literal) ≡ at_root 13
 plus_both = refl
 
 append_lists_both : refused (operator bins.ListAppend one one) ≡ at_root 13
@@ -131,7 +131,7 @@ unfolding alpha
 append_lists_names = refl
 
 -- both sides are typed before the checks
-plus_sides_ill : refused (plus yes' (plus one yes')) ≡ at (1 ∷ []) 14
+plus_sides_ill : refused (plus true_literal (plus one true_literal)) ≡ at (1 ∷ []) 14
 plus_sides_ill = refl
 
 -- ---- 15, 16, 17, 18: lists and optional values
@@ -177,11 +177,11 @@ elements_second : refused (list (one ∷ natural_type ∷ [])) ≡ at_root 17
 unfolding alpha
 elements_second = refl
 
-elements_differ : refused (list (one ∷ two ∷ yes' ∷ [])) ≡ at_root 17
+elements_differ : refused (list (one ∷ two ∷ true_literal ∷ [])) ≡ at_root 17
 unfolding alpha
 elements_differ = refl
 
-element_ill : refused (list (one ∷ yes' ∷ plus one yes' ∷ [])) ≡ at (2 ∷ []) 14
+element_ill : refused (list (one ∷ true_literal ∷ plus one true_literal ∷ [])) ≡ at (2 ∷ []) 14
 element_ill = refl
 
 optional_value : type_of (some one) ≡ Some (optional_type natural_type)
@@ -194,7 +194,7 @@ optional_kind : refused (some kind) ≡ at_root 18
 optional_kind = refl
 
 -- a type that has no type itself is in no universe: `Some x` where x has the type y, which is not bound
-optional_of_ill : infer 100 100 ((x, var y 0) ∷ []) 0 (some (var x 0)) ≡ Ill [] rule.SomeNotInType
+optional_of_ill : infer 100 1000 100 ((x, var y 0) ∷ []) 0 (some (var x 0)) ≡ Ill [] rule.SomeNotInType
 optional_of_ill = refl
 
 -- ---- 46: texts
@@ -246,7 +246,7 @@ sides : type_of (equivalent one two) ≡ Some type
 unfolding alpha
 sides = refl
 
-sides_differ : refused (equivalent one yes') ≡ at_root 50
+sides_differ : refused (equivalent one true_literal) ≡ at_root 50
 unfolding alpha
 sides_differ = refl
 
@@ -281,7 +281,7 @@ unfolding alpha
 annotated_names = refl
 
 -- `1 : if True then Natural else Bool` is refused at the annotation
-annotation_ill : refused (annotation one (if_else yes' natural_type bool_type)) ≡ at (1 ∷ []) 11
+annotation_ill : refused (annotation one (if_else true_literal natural_type bool_type)) ≡ at (1 ∷ []) 11
 annotation_ill = refl
 
 -- `Kind : Sort`: this annotation has no type

@@ -3,18 +3,17 @@
 use Rattle.std.specs.Prelude.{◌≡◌, refl, [], ◌∷◌, Some, codes}
 use Rattle.dh_syntax.specs.declared.operators.BinOp.TheVariants as bins
 use Rattle.dh_syntax.specs.Names.Alpha.{alpha}
-use Rattle.dh_examples.specs.ExampleTerms.{x, var}
 use Rattle.dh_syntax.specs.Expressions.Forms.{operator, lambda, forall, let_in, app, record_type, record_literal, field, projection, projection_by_type, union, update}
-use Rattle.dh_examples.specs.Normalising.RowTerms.{a, b, c}
+use Rattle.dh_examples.specs.Typing.Judged.{at, at_root, refused, type_of}
+use Rattle.dh_examples.specs.Vocabulary.{a, b, bool_type, c, kind, letter, natural_type, one, plus, sort, text_type, true_literal, type, typed, untyped, var, with_field, with_type, x}
 use Rattle.dh_syntax.specs.Expressions.Tree.{Term}
-use Rattle.dh_examples.specs.Typing.TypingTerms.{type_of, refused, at, at_root, type, kind, sort, bool_type, natural_type, text_type, one, yes', letter, plus, empty, holding, with_type, with_field}
 
 -- `{ a : Natural, b : Bool }` and `{ a = 1, b = True }`
 abbrev both_types : Term
 both_types = record_type ((a, natural_type) ∷ (b, bool_type) ∷ [])
 
 abbrev both : Term
-both = record_literal ((a, one) ∷ (b, yes') ∷ [])
+both = record_literal ((a, one) ∷ (b, true_literal) ∷ [])
 
 -- ---- 19, 20, 21: record types, records and unions
 
@@ -52,19 +51,19 @@ record_with_kind : refused (record_literal ((a, one) ∷ (b, kind) ∷ [])) ≡ 
 record_with_kind = refl
 
 -- `< a | b : Natural >`, `<>`, `< a | b : Type >`
-union_of_types : type_of (union (empty a ∷ holding b ∷ []) (natural_type ∷ [])) ≡ Some type
+union_of_types : type_of (union (untyped a ∷ typed b ∷ []) (natural_type ∷ [])) ≡ Some type
 union_of_types = refl
 
 union_of_nothing : type_of (union [] []) ≡ Some type
 union_of_nothing = refl
 
-union_of_kinds : type_of (union (empty a ∷ holding b ∷ []) (type ∷ [])) ≡ Some kind
+union_of_kinds : type_of (union (untyped a ∷ typed b ∷ []) (type ∷ [])) ≡ Some kind
 union_of_kinds = refl
 
-union_value : refused (union (empty a ∷ holding b ∷ []) (one ∷ [])) ≡ at_root 21
+union_value : refused (union (untyped a ∷ typed b ∷ []) (one ∷ [])) ≡ at_root 21
 union_value = refl
 
-union_ill : refused (union (empty a ∷ holding b ∷ []) (sort ∷ [])) ≡ at (0 ∷ []) 2
+union_ill : refused (union (untyped a ∷ typed b ∷ []) (sort ∷ [])) ≡ at (0 ∷ []) 2
 union_ill = refl
 
 -- ---- 22: selection
@@ -74,7 +73,7 @@ select = refl
 
 -- `< a | b : Natural >.a` is one of it, and `< a | b : Natural >.b` a function to it
 abbrev choice : Term
-choice = union (empty a ∷ holding b ∷ []) (natural_type ∷ [])
+choice = union (untyped a ∷ typed b ∷ []) (natural_type ∷ [])
 
 select_empty : type_of (field choice a) ≡ Some choice
 select_empty = refl
@@ -83,18 +82,18 @@ select_holding : type_of (field choice b) ≡ Some (forall b natural_type choice
 select_holding = refl
 
 -- `λ(b : Type) → < a : b >.a` has the type `∀(b : Type) → ∀(a : b) → < a : b >`
-select_below : type_of (lambda b type (field (union (holding a ∷ []) (var b 0 ∷ [])) a))
-    ≡ Some (forall b type (forall a (var b 0) (union (holding a ∷ []) (var b 0 ∷ []))))
+select_below : type_of (lambda b type (field (union (typed a ∷ []) (var b 0 ∷ [])) a))
+    ≡ Some (forall b type (forall a (var b 0) (union (typed a ∷ []) (var b 0 ∷ []))))
 select_below = refl
 
 -- `λ(b : Type) → < b : b >.b` has the type `∀(b : Type) → ∀(b : b) → < b : b@1 >`
-select_shifted : type_of (lambda b type (field (union (holding b ∷ []) (var b 0 ∷ [])) b))
-    ≡ Some (forall b type (forall b (var b 0) (union (holding b ∷ []) (var b 1 ∷ []))))
+select_shifted : type_of (lambda b type (field (union (typed b ∷ []) (var b 0 ∷ [])) b))
+    ≡ Some (forall b type (forall b (var b 0) (union (typed b ∷ []) (var b 1 ∷ []))))
 select_shifted = refl
 
 -- `< a : Bool | b : Natural >.b`: each alternative has its own type
-select_second : type_of (field (union (holding a ∷ holding b ∷ []) (bool_type ∷ natural_type ∷ [])) b)
-    ≡ Some (forall b natural_type (union (holding a ∷ holding b ∷ []) (bool_type ∷ natural_type ∷ [])))
+select_second : type_of (field (union (typed a ∷ typed b ∷ []) (bool_type ∷ natural_type ∷ [])) b)
+    ≡ Some (forall b natural_type (union (typed a ∷ typed b ∷ []) (bool_type ∷ natural_type ∷ [])))
 select_second = refl
 
 -- `let x = < a | b : Natural > in x.a`, and a union that contraction finds: `{ c = < a | b : Natural > }.c.a`
@@ -113,7 +112,7 @@ select_missing_alternative = refl
 select_value : refused (field one a) ≡ at_root 22
 select_value = refl
 
-select_ill : refused (field (plus one yes') a) ≡ at (0 ∷ []) 14
+select_ill : refused (field (plus one true_literal) a) ≡ at (0 ∷ []) 14
 select_ill = refl
 
 -- ---- 23, 24: projection
@@ -176,11 +175,11 @@ prefer_right : refused (operator bins.Prefer both one) ≡ at_root 29
 prefer_right = refl
 
 -- `{ c = True } ∧ { a = 1 }`
-combine : type_of (operator bins.Combine (with_field c yes') (with_field a one)) ≡ Some (record_type ((a, natural_type) ∷ (c, bool_type) ∷ []))
+combine : type_of (operator bins.Combine (with_field c true_literal) (with_field a one)) ≡ Some (record_type ((a, natural_type) ∷ (c, bool_type) ∷ []))
 combine = refl
 
 -- `{ a = { b = 1 }, c = 1 } ∧ { a = { c = True } }`
-combine_inside : type_of (operator bins.Combine (record_literal ((a, with_field b one) ∷ (c, one) ∷ [])) (with_field a (with_field c yes')))
+combine_inside : type_of (operator bins.Combine (record_literal ((a, with_field b one) ∷ (c, one) ∷ [])) (with_field a (with_field c true_literal)))
     ≡ Some (record_type ((a, record_type ((b, natural_type) ∷ (c, bool_type) ∷ [])) ∷ (c, natural_type) ∷ []))
 combine_inside = refl
 
@@ -240,17 +239,17 @@ update_new : type_of (update both (c ∷ []) letter) ≡ Some (record_type ((a, 
 update_new = refl
 
 -- `{ a = 1 } with b.c = True`, `{ a = { b = 1 } } with a.c = True`
-update_made : type_of (update (with_field a one) (b ∷ c ∷ []) yes') ≡ Some (record_type ((a, natural_type) ∷ (b, with_type c bool_type) ∷ []))
+update_made : type_of (update (with_field a one) (b ∷ c ∷ []) true_literal) ≡ Some (record_type ((a, natural_type) ∷ (b, with_type c bool_type) ∷ []))
 update_made = refl
 
-update_inside : type_of (update (with_field a (with_field b one)) (a ∷ c ∷ []) yes') ≡ Some (with_type a (record_type ((b, natural_type) ∷ (c, bool_type) ∷ [])))
+update_inside : type_of (update (with_field a (with_field b one)) (a ∷ c ∷ []) true_literal) ≡ Some (with_type a (record_type ((b, natural_type) ∷ (c, bool_type) ∷ [])))
 update_inside = refl
 
 update_value : refused (update one (a ∷ []) one) ≡ at_root 54
 update_value = refl
 
 -- `{ a = 1 } with a.b = True`
-update_through_value : refused (update (with_field a one) (a ∷ b ∷ []) yes') ≡ at_root 54
+update_through_value : refused (update (with_field a one) (a ∷ b ∷ []) true_literal) ≡ at_root 54
 update_through_value = refl
 
 update_sort : refused (update both (a ∷ []) kind) ≡ at_root 55
@@ -266,7 +265,7 @@ abbrev schema : Term
 schema = record_literal ((codes "Type", both_types) ∷ (codes "default", with_field a one) ∷ [])
 
 -- `..::{ b = True }`
-completed : type_of (operator bins.Complete schema (with_field b yes')) ≡ Some both_types
+completed : type_of (operator bins.Complete schema (with_field b true_literal)) ≡ Some both_types
 unfolding alpha
 completed = refl
 
@@ -279,10 +278,10 @@ completion_of_value : refused (operator bins.Complete one (record_literal [])) �
 completion_of_value = refl
 
 -- what fails in a side fails there
-completion_left_ill : refused (operator bins.Complete (plus one yes') (plus one yes')) ≡ at (0 ∷ []) 14
+completion_left_ill : refused (operator bins.Complete (plus one true_literal) (plus one true_literal)) ≡ at (0 ∷ []) 14
 completion_left_ill = refl
 
-completion_right_ill : refused (operator bins.Complete one (plus one yes')) ≡ at (1 ∷ []) 14
+completion_right_ill : refused (operator bins.Complete one (plus one true_literal)) ≡ at (1 ∷ []) 14
 completion_right_ill = refl
 
 -- ---- 56: `?`

@@ -1,20 +1,19 @@
 -- Typing of `merge` and `toMap`: each rule where it holds and where it fails.
 use Rattle.std.specs.Prelude.{◌≡◌, refl, [], ◌∷◌, Some, codes}
 use Rattle.dh_syntax.specs.Names.Alpha.{alpha}
-use Rattle.dh_examples.specs.ExampleTerms.{x, y, var}
 use Rattle.dh_syntax.specs.Expressions.Forms.{app, lambda, forall, list_type, some, none, union, field, merge, record_type, record_literal, to_map, to_map_typed}
-use Rattle.dh_examples.specs.Normalising.RowTerms.{a, b}
+use Rattle.dh_examples.specs.Typing.Judged.{at, at_root, refused, type_of}
+use Rattle.dh_examples.specs.Vocabulary.{a, assert, b, bool_type, equivalent, letter, merge_typed, natural_type, one, optional_type, plus, sort, text_type, true_literal, two, type, typed, untyped, var, with_field, with_type, x, y}
 use Rattle.dh_syntax.specs.Expressions.Tree.{Term}
-use Rattle.dh_examples.specs.Typing.TypingTerms.{type_of, refused, at, at_root, type, sort, bool_type, natural_type, text_type, one, two, yes', letter, optional_type, plus, equivalent, assert, merge_typed, empty, holding, with_type, with_field}
 
 -- ---- `merge`
 
 -- `< a | b : Bool >`, and of it `< a | b : Bool >.b True`
 abbrev choice : Term
-choice = union (empty a ∷ holding b ∷ []) (bool_type ∷ [])
+choice = union (untyped a ∷ typed b ∷ []) (bool_type ∷ [])
 
 abbrev chosen : Term
-chosen = app (field choice b) yes'
+chosen = app (field choice b) true_literal
 
 -- `{ a = e, b = f }`
 abbrev handlers : Term → Term → Term
@@ -29,7 +28,7 @@ merge_union = refl
 abbrev optional_handlers : Term
 optional_handlers = record_literal ((codes "None", one) ∷ (codes "Some", lambda x bool_type two) ∷ [])
 
-merge_some : type_of (merge optional_handlers (some yes')) ≡ Some natural_type
+merge_some : type_of (merge optional_handlers (some true_literal)) ≡ Some natural_type
 unfolding alpha
 merge_some = refl
 
@@ -39,9 +38,9 @@ merge_none = refl
 
 -- `λ(x : Type) → λ(y : x) → merge { a = λ(x : Bool) → y, b = y } ..` has the result x, seen from outside the handler's binder
 merge_shifted : type_of (
-    lambda x type (lambda y (var x 0) (lambda a (union (holding a ∷ empty b ∷ []) (bool_type ∷ [])) (
+    lambda x type (lambda y (var x 0) (lambda a (union (typed a ∷ untyped b ∷ []) (bool_type ∷ [])) (
     merge (handlers (lambda x bool_type (var y 0)) (var y 0)) (var a 0)))))
-    ≡ Some (forall x type (forall y (var x 0) (forall a (union (holding a ∷ empty b ∷ []) (bool_type ∷ [])) (var x 0))))
+    ≡ Some (forall x type (forall y (var x 0) (forall a (union (typed a ∷ untyped b ∷ []) (bool_type ∷ [])) (var x 0))))
 unfolding alpha
 merge_shifted = refl
 
@@ -78,11 +77,11 @@ handler_missing : refused (merge (with_field a one) chosen) ≡ at_root 36
 unfolding alpha
 handler_missing = refl
 
-handler_unused : refused (merge (handlers one one) (app (field (union (holding b ∷ []) (bool_type ∷ [])) b) yes')) ≡ at_root 36
+handler_unused : refused (merge (handlers one one) (app (field (union (typed b ∷ []) (bool_type ∷ [])) b) true_literal)) ≡ at_root 36
 unfolding alpha
 handler_unused = refl
 
-optional_handler_missing : refused (merge (with_field (codes "None") one) (some yes')) ≡ at_root 36
+optional_handler_missing : refused (merge (with_field (codes "None") one) (some true_literal)) ≡ at_root 36
 optional_handler_missing = refl
 
 -- 37: no function, a function from another type
@@ -106,7 +105,7 @@ handlers_differ = refl
 
 -- each handler is checked before the next one: the one of b differs, and then the one of y is no function
 handlers_in_order : refused (merge (record_literal ((a, letter) ∷ (b, two) ∷ (y, two) ∷ []))
-    (field (union (empty a ∷ empty b ∷ holding y ∷ []) (bool_type ∷ [])) a)) ≡ at_root 39
+    (field (union (untyped a ∷ untyped b ∷ typed y ∷ []) (bool_type ∷ [])) a)) ≡ at_root 39
 unfolding alpha
 handlers_in_order = refl
 
@@ -129,7 +128,7 @@ merge_annotation_sort : refused (merge_typed (handlers one (lambda x bool_type t
 unfolding alpha
 merge_annotation_sort = refl
 
-merge_annotation_ill : refused (merge_typed one one (plus one yes')) ≡ at (2 ∷ []) 14
+merge_annotation_ill : refused (merge_typed one one (plus one true_literal)) ≡ at (2 ∷ []) 14
 merge_annotation_ill = refl
 
 -- 41: `λ(x : <>) → merge {=} x`, and with an annotation, of which nothing more is asked
@@ -169,7 +168,7 @@ map_empty_annotated = refl
 map_value : refused (to_map one) ≡ at_root 42
 map_value = refl
 
-map_differ : refused (to_map (record_literal ((a, one) ∷ (b, yes') ∷ []))) ≡ at_root 43
+map_differ : refused (to_map (record_literal ((a, one) ∷ (b, true_literal) ∷ []))) ≡ at_root 43
 unfolding alpha
 map_differ = refl
 
@@ -219,5 +218,5 @@ map_fields_first = refl
 map_annotation_sort : refused (to_map_typed (record_literal []) sort) ≡ at_root 45
 map_annotation_sort = refl
 
-map_annotation_ill : refused (to_map_typed one (plus one yes')) ≡ at (1 ∷ []) 14
+map_annotation_ill : refused (to_map_typed one (plus one true_literal)) ≡ at (1 ∷ []) 14
 map_annotation_ill = refl

@@ -3,18 +3,17 @@
 use Rattle.std.specs.Prelude.{◌≡◌, refl, [], ◌∷◌, codes}
 use Rattle.dh_syntax.specs.declared.operators.BinOp.TheVariants as bins
 use Rattle.dh_syntax.specs.Names.Alpha.{alpha}
-use Rattle.dh_examples.specs.ExampleTerms.{x, y, var}
 use Rattle.dh_syntax.specs.Expressions.Forms.{operator, if_else, app, lambda, forall, let_in, let_typed, list, empty_list, list_type, some, record_type, record_literal, field, projection, projection_by_type, union, merge, to_map, to_map_typed, update, annotation}
 use Rattle.dh_syntax.specs.Typing.Inference.{Has, Ill, IsOver}
-use Rattle.dh_examples.specs.Normalising.RowTerms.{a, b, c}
 use Rattle.dh_syntax.specs.Expressions.Tree.{Term}
+use Rattle.dh_examples.specs.Typing.Judged.{inferred}
+use Rattle.dh_examples.specs.Vocabulary.{a, assert, b, bool_type, c, equivalent, merge_typed, natural_type, one, optional_type, plus, text_type, true_literal, two, type, typed, untyped, var, with_field, with_type, x, y, ◌⟶◌}
 use Rattle.dh_syntax.specs.Typing.TypeRules as rule
-use Rattle.dh_examples.specs.Typing.TypingTerms.{inferred, type, bool_type, natural_type, text_type, one, two, yes', ◌⟶◌, optional_type, plus, equivalent, assert, merge_typed, empty, holding, with_type, with_field}
 
 -- ---- literals, operators, `if`
 
 -- no rule of `if True then 1 + 2 else 2` needs a normal form or makes a type
-no_units : inferred 0 (if_else yes' (plus one two) two) ≡ Has natural_type 0
+no_units : inferred 0 (if_else true_literal (plus one two) two) ≡ Has natural_type 0
 unfolding alpha
 no_units = refl
 
@@ -106,18 +105,18 @@ no_elements = refl
 -- ---- records and unions
 
 -- `{ a = 1, b = True }.a`: the type of the record
-select : inferred 3 (field (record_literal ((a, one) ∷ (b, yes') ∷ [])) a) ≡ Has natural_type 0
+select : inferred 3 (field (record_literal ((a, one) ∷ (b, true_literal) ∷ [])) a) ≡ Has natural_type 0
 select = refl
 
 -- `{ a = 1, b = True }.c`: to refuse it the record itself is normalised too (3)
-select_nothing : inferred 6 (field (record_literal ((a, one) ∷ (b, yes') ∷ [])) c) ≡ Ill [] rule.NothingToSelect
+select_nothing : inferred 6 (field (record_literal ((a, one) ∷ (b, true_literal) ∷ [])) c) ≡ Ill [] rule.NothingToSelect
 select_nothing = refl
 
-select_nothing_over : inferred 5 (field (record_literal ((a, one) ∷ (b, yes') ∷ [])) c) ≡ IsOver
+select_nothing_over : inferred 5 (field (record_literal ((a, one) ∷ (b, true_literal) ∷ [])) c) ≡ IsOver
 select_nothing_over = refl
 
 -- `{ a = 1, b = True }.{ b }`: the type of the record (3), and `{ b : Bool }` (2)
-project : inferred 5 (projection (record_literal ((a, one) ∷ (b, yes') ∷ [])) (b ∷ [])) ≡ Has (with_type b bool_type) 0
+project : inferred 5 (projection (record_literal ((a, one) ∷ (b, true_literal) ∷ [])) (b ∷ [])) ≡ Has (with_type b bool_type) 0
 project = refl
 
 -- `1.({ b : Bool })`: the type is not normalised where there is no record
@@ -125,16 +124,16 @@ project_value : inferred 0 (projection_by_type one (with_type b bool_type)) ≡ 
 project_value = refl
 
 -- `{ a = 1, b = True }.({ b : Bool })`: the type of the record (3), and the record type (2)
-project_by_type : inferred 5 (projection_by_type (record_literal ((a, one) ∷ (b, yes') ∷ [])) (with_type b bool_type)) ≡ Has (with_type b bool_type) 0
+project_by_type : inferred 5 (projection_by_type (record_literal ((a, one) ∷ (b, true_literal) ∷ [])) (with_type b bool_type)) ≡ Has (with_type b bool_type) 0
 unfolding alpha
 project_by_type = refl
 
 -- `{ a = 1 } ⫽ { b = True }`: the types of both records (2 + 2), and that of the whole (3)
-prefer : inferred 7 (operator bins.Prefer (with_field a one) (with_field b yes')) ≡ Has (record_type ((a, natural_type) ∷ (b, bool_type) ∷ [])) 0
+prefer : inferred 7 (operator bins.Prefer (with_field a one) (with_field b true_literal)) ≡ Has (record_type ((a, natural_type) ∷ (b, bool_type) ∷ [])) 0
 prefer = refl
 
 -- `{ a = 1 } ∧ { b = True }`, likewise
-combine : inferred 7 (operator bins.Combine (with_field a one) (with_field b yes')) ≡ Has (record_type ((a, natural_type) ∷ (b, bool_type) ∷ [])) 0
+combine : inferred 7 (operator bins.Combine (with_field a one) (with_field b true_literal)) ≡ Has (record_type ((a, natural_type) ∷ (b, bool_type) ∷ [])) 0
 combine = refl
 
 -- `{ a : Natural } ⩓ { b : Bool }`: both sides; the type is a universe
@@ -146,12 +145,12 @@ combine_types_left : inferred 1 (operator bins.CombineTypes natural_type (with_t
 combine_types_left = refl
 
 -- `{ a = 1 } with b.c = True`: the type of the record (2), and `{ a : Natural, b : { c : Bool } }` (4)
-updated : inferred 6 (update (with_field a one) (b ∷ c ∷ []) yes') ≡ Has (record_type ((a, natural_type) ∷ (b, with_type c bool_type) ∷ [])) 0
+updated : inferred 6 (update (with_field a one) (b ∷ c ∷ []) true_literal) ≡ Has (record_type ((a, natural_type) ∷ (b, with_type c bool_type) ∷ [])) 0
 updated = refl
 
 -- `< a | b : Bool >.b`: the union (2), and `∀(b : Bool) → < a | b : Bool >` (4)
 abbrev choice : Term
-choice = union (empty a ∷ holding b ∷ []) (bool_type ∷ [])
+choice = union (untyped a ∷ typed b ∷ []) (bool_type ∷ [])
 
 alternative : inferred 6 (field choice b) ≡ Has (forall b bool_type choice) 0
 alternative = refl
@@ -162,7 +161,7 @@ empty_alternative = refl
 
 -- `merge { a = 1, b = λ(x : Bool) → 2 } (< a | b : Bool >.b True)`: the handler of b (1 + 3), the type of the handlers (5),
 -- the alternative (6), and the union as the range (2)
-merged : inferred 17 (merge (record_literal ((a, one) ∷ (b, lambda x bool_type two) ∷ [])) (app (field choice b) yes')) ≡ Has natural_type 0
+merged : inferred 17 (merge (record_literal ((a, one) ∷ (b, lambda x bool_type two) ∷ [])) (app (field choice b) true_literal)) ≡ Has natural_type 0
 unfolding alpha
 merged = refl
 
@@ -195,7 +194,7 @@ schema = record_literal ((codes "Type", record_type ((a, natural_type) ∷ (b, b
 
 -- `..::{ b = True }`: both sides (6 + 2), and then `(...default ⫽ { b = True }) : ...Type`: the same again (6 + 2), the type
 -- of `⫽` (3), the schema once more (6), and the normal form of `...Type`, a contraction and three nodes (4)
-completed : inferred 29 (operator bins.Complete schema (with_field b yes')) ≡ Has (record_type ((a, natural_type) ∷ (b, bool_type) ∷ [])) 0
+completed : inferred 29 (operator bins.Complete schema (with_field b true_literal)) ≡ Has (record_type ((a, natural_type) ∷ (b, bool_type) ∷ [])) 0
 unfolding alpha
 completed = refl
 

@@ -4,7 +4,8 @@ use Rattle.std.specs.Prelude.{◌||◌, if◌then◌else◌, nat_lt}
 use Rattle.std.proofs.lemmas.List.{append_assoc}
 use Rattle.dh_syntax.specs.declared.tokens.Token.{Token}
 use Rattle.dh_syntax.specs.Text.Derivation.{Derivation}
-use Rattle.dh_syntax.specs.Text.Spelling.{StopsAt, StopsNested, opens_too_many, most_open}
+use Rattle.dh_syntax.specs.Text.Spelling.{StopsAt, StopsNested, opens_too_many}
+use Rattle.dh_syntax.specs.Limits.{most_open}
 use Rattle.dh_syntax.specs.Text.Yield.{Written}
 use Rattle.dh_grammar.specs.Reading.{runs_still, unfinished, refused, nested, reading, outcome_of}
 use Rattle.dh_grammar.specs.Laws.Derivations.{OutcomeIsRight, FirstFault}

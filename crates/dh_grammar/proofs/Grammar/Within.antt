@@ -7,7 +7,7 @@ use Rattle.dh_syntax.specs.declared.tokens.Mark.TheVariants.{ParenOpen, ParenClo
 use Rattle.dh_syntax.specs.declared.tokens.TokenKind.{TokenKind}
 use Rattle.dh_syntax.specs.declared.tokens.TokenKind.TheVariants as kinds
 use Rattle.dh_syntax.specs.Expressions.Levels.{level_of, left_level}
-use Rattle.dh_syntax.specs.Text.Spelling.{most_open}
+use Rattle.dh_syntax.specs.Limits.{most_open}
 use Rattle.dh_grammar.specs.Depths.{Within, opens_many}
 use Rattle.dh_grammar.specs.Machine as machine
 use Rattle.dh_grammar.specs.Machine.{Sorts, Making}

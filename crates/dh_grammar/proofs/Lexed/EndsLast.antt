@@ -4,7 +4,7 @@ use Rattle.std.specs.Prelude.{⊤, not, ◌||◌, nat_lt, if◌then◌else◌, R
 use Rattle.dh_syntax.specs.declared.tokens.Token.{Token}
 use Rattle.dh_syntax.specs.declared.tokens.TokenKind.TheVariants as kinds
 use Rattle.dh_syntax.specs.Text.Lexing.{LexFault, Place, Outside, Interpolated, Among, State, start, Step, Stops, Skips, Gives, by_step, with_token, end_at, step_at, form_at, tokens_from, lex}
-use Rattle.dh_syntax.specs.Text.Spelling.{most_open}
+use Rattle.dh_syntax.specs.Limits.{most_open}
 use Rattle.dh_syntax.proofs.LexingLaws.{lex-from_start}
 use Rattle.dh_grammar.specs.Machine.{need, have, wait, done, stopped}
 use Rattle.dh_grammar.specs.Reading.{runs_still, Outcome, unfinished, refused, nested, reading, outcome_of}

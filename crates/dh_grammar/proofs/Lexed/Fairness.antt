@@ -16,7 +16,8 @@ use Rattle.dh_syntax.specs.Text.Lexing.{Before, before_after, is_wide_index}
 use Rattle.dh_syntax.specs.Text.Meaning.{meaning, note, items, alternatives, fields, entry, entries, pieces, interpolations, lets_around, updated, dotted, location, names, sorted, joined, variable_term, record_term, parts}
 use Rattle.dh_syntax.specs.Expressions.Operators.{builtin_name}
 use Rattle.dh_syntax.specs.Expressions.Order.{ascending}
-use Rattle.dh_syntax.specs.Expressions.Spellable.{is_label, location_spellable, most_index}
+use Rattle.dh_syntax.specs.Expressions.Spellable.{is_label, location_spellable}
+use Rattle.dh_syntax.specs.Limits.{most_index}
 use Rattle.dh_syntax.specs.Expressions.Tree.{Leaf, end, Name, Term}
 use Rattle.dh_syntax.specs.Text.Yield.{Written, token, mark, keyword, name, name_kind, key_kind, import_type_kind, apart, free, separator, keys_yield, digest_yield, yield, note_yield, lets_yield, updates_yield, chunks_yield, items_yield, alternatives_yield, fields_yield, entry_yield, entries_yield}
 use Rattle.dh_grammar.specs.Values.{good_kind, digest_if, sound, written_kinds}

@@ -23,7 +23,9 @@ use Rattle.dh_syntax.specs.Text.LexNames.{Reserved, keyword_names, built_in_name
 use Rattle.dh_syntax.specs.Text.LexNumbers.{natural_found, integer_found, natural, integer, begins_fraction, begins_exponent, is_shaped, fractional, double, signed_double, date, time, signed_time, binary, bytes_literal}
 use Rattle.dh_syntax.specs.Text.LexTexts.{double_quoted_opening, multi_line_opening, closing_len, piece_character, text_part}
 use Rattle.dh_syntax.specs.Imports.Locations.{is_path_character}
-use Rattle.dh_syntax.specs.Text.Numerals.{natural_len, integer_len, natural_value, integer_value, natural_fits, integer_fits, read_natural, read_integer}
+use Rattle.dh_syntax.specs.Text.Numerals.{natural_len, integer_len, natural_value, integer_value, read_natural, read_integer}
+use Rattle.dh_syntax.specs.Limits.{natural_fits}
+use Rattle.dh_syntax.specs.Limits.{integer_fits}
 use Rattle.dh_syntax.specs.Expressions.Spellable.{is_label, is_component}
 use Rattle.dh_syntax.specs.Text.Stretches.{Stretch, UpTo, FaultAt, stretch}
 use Rattle.dh_grammar.specs.Values.{good_kind, digest_fits}

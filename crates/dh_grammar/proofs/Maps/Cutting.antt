@@ -11,7 +11,7 @@ use Rattle.dh_syntax.specs.Text.Meaning as meanings
 use Rattle.dh_syntax.specs.Expressions.Nesting.{nesting, parts_nesting}
 use Rattle.dh_syntax.specs.Expressions.Numbers.{bytes_eq}
 use Rattle.dh_syntax.specs.Expressions.Order.{before}
-use Rattle.dh_syntax.specs.Expressions.Spellable.{most_nesting}
+use Rattle.dh_syntax.specs.Limits.{most_nesting}
 use Rattle.dh_syntax.specs.Expressions.Tree.{Row, Leaf, Node, end, kid, Name, Var, Term}
 use Rattle.dh_grammar.specs.Inside.Mapping.{Carries}
 use Rattle.dh_grammar.specs.Making.{option_map}

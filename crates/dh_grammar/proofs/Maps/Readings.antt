@@ -2,7 +2,7 @@
 use Rattle.std.proofs.Common.{◌≡◌, ℕ, Bool, true, false, List, [], ◌∷◌, refl, sym, ◌∙◌, ap}
 use Rattle.std.specs.Prelude.{not, ◌||◌, if◌then◌else◌, nat_lt}
 use Rattle.dh_syntax.specs.declared.tokens.Token.{Token}
-use Rattle.dh_syntax.specs.Text.Spelling.{most_open}
+use Rattle.dh_syntax.specs.Limits.{most_open}
 use Rattle.dh_grammar.specs.Making.{Sorts, Making}
 use Rattle.dh_grammar.specs.Machine.{State, need, have, wait, done, stopped, after, gap_at, depth_at}
 use Rattle.dh_grammar.specs.Inside.Mapping.{Mapping, Carries, map_state}

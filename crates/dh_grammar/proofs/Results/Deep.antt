@@ -4,7 +4,7 @@ use Rattle.std.specs.Prelude.{Option}
 use Rattle.dh_syntax.specs.declared.tokens.Token.{Token}
 use Rattle.dh_syntax.specs.Text.Meaning.{meaning}
 use Rattle.dh_syntax.specs.Expressions.Nesting.{nesting}
-use Rattle.dh_syntax.specs.Expressions.Spellable.{most_nesting}
+use Rattle.dh_syntax.specs.Limits.{most_nesting}
 use Rattle.dh_syntax.specs.Text.Spelling.{NestsTooDeep}
 use Rattle.dh_syntax.specs.Expressions.Tree.{Name, Term}
 use Rattle.dh_grammar.specs.Laws.Depths.{DeepExactly, StubsSpread}

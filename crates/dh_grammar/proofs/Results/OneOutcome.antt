@@ -2,7 +2,8 @@
 use Rattle.std.proofs.Common.{◌≡◌, Bool, true, false, List, [], ◌∷◌, ◌++◌, refl, sym, ◌∙◌, ap, subst, append-nil}
 use Rattle.std.specs.Prelude.{not, ◌||◌, if◌then◌else◌, nat_lt}
 use Rattle.dh_syntax.specs.declared.tokens.Token.{Token}
-use Rattle.dh_syntax.specs.Text.Spelling.{OpensTooMany, opens_too_many, most_open}
+use Rattle.dh_syntax.specs.Text.Spelling.{OpensTooMany, opens_too_many}
+use Rattle.dh_syntax.specs.Limits.{most_open}
 use Rattle.dh_grammar.specs.Reading.{runs_still, Outcome, accepted, unfinished, refused, nested, reading, outcome_of}
 use Rattle.dh_grammar.specs.Laws.Derivations.{OutcomeIsRight}
 use Rattle.dh_grammar.specs.Machine.{need, have, wait, done, stopped}

@@ -11,8 +11,10 @@ use Rattle.dh_syntax.specs.Text.Derivation.{Derivation}
 use Rattle.dh_syntax.specs.Text.Lexing.{LexFault, Bad, Wide, Out, lex}
 use Rattle.dh_syntax.specs.Text.Meaning.{meaning}
 use Rattle.dh_syntax.specs.Expressions.Nesting.{nesting}
-use Rattle.dh_syntax.specs.Expressions.Spellable.{IsSpellable, most_nesting}
-use Rattle.dh_syntax.specs.Text.Spelling.{most_bytes, IsText, Derives, ParsesTo, opens_too_many}
+use Rattle.dh_syntax.specs.Expressions.Spellable.{IsSpellable}
+use Rattle.dh_syntax.specs.Limits.{most_nesting}
+use Rattle.dh_syntax.specs.Text.Spelling.{IsText, Derives, ParsesTo, opens_too_many}
+use Rattle.dh_syntax.specs.Limits.{most_bytes}
 use Rattle.dh_syntax.specs.Expressions.Tree.{Term}
 use Rattle.dh_syntax.specs.Text.Yield.{text_yield}
 use Rattle.dh_grammar.specs.Inside.Forget.{ftree}

@@ -2,7 +2,7 @@
 use Rattle.std.proofs.Common.{◌≡◌, true, false, List, ◌∷◌, refl, ◌∙◌, ap, subst}
 use Rattle.std.specs.Prelude.{not, ◌||◌, if◌then◌else◌, nat_lt, Bool}
 use Rattle.dh_syntax.specs.declared.tokens.Token.{Token}
-use Rattle.dh_syntax.specs.Text.Spelling.{most_open}
+use Rattle.dh_syntax.specs.Limits.{most_open}
 use Rattle.dh_grammar.specs.Depths.{Within}
 use Rattle.dh_grammar.specs.Laws.Readings.{LacksGap, CannotStand, OpensTooMany, GoesOn}
 use Rattle.dh_grammar.specs.Machine.{Sorts, Making, State, stopped, after, gap_at, depth_at}

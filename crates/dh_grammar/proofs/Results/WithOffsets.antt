@@ -6,7 +6,8 @@ use Rattle.dh_syntax.specs.Text.Derivation.{Derivation}
 use Rattle.dh_syntax.specs.Text.Lexing.{lex}
 use Rattle.dh_syntax.specs.Text.Meaning.{meaning}
 use Rattle.dh_syntax.specs.Text.Offsets.{SpellsWith, location_ends}
-use Rattle.dh_syntax.specs.Expressions.Spellable.{IsSpellable, most_nesting}
+use Rattle.dh_syntax.specs.Expressions.Spellable.{IsSpellable}
+use Rattle.dh_syntax.specs.Limits.{most_nesting}
 use Rattle.dh_syntax.specs.Text.Spelling.{IsText}
 use Rattle.dh_grammar.specs.Inside.Mapping.{beside, by_way, Carries}
 use Rattle.dh_grammar.specs.Inside.Forget.{ftree, forgetting}

@@ -2,8 +2,8 @@
 use Rattle.std.specs.Prelude.{true, false, nat_lt, ◌≡◌, ◌↔◌, ◌<◌, List, [], ◌∷◌, ◌++◌, Option}
 use Rattle.dh_syntax.specs.declared.expressions.Op.{Op}
 use Rattle.dh_syntax.specs.declared.tokens.Token.{Token}
-use Rattle.dh_syntax.specs.Expressions.Spellable.{most_nesting}
-use Rattle.dh_syntax.specs.Text.Spelling.{NestsTooDeep, most_open}
+use Rattle.dh_syntax.specs.Limits.{most_nesting, most_open}
+use Rattle.dh_syntax.specs.Text.Spelling.{NestsTooDeep}
 use Rattle.dh_syntax.specs.Expressions.Tree.{Name}
 use Rattle.dh_grammar.specs.Machine.{Sorts, Making, State, need, after, depth_at}
 use Rattle.dh_grammar.specs.Reading.{accepted, reading, runs_still}

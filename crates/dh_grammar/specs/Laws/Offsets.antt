@@ -3,7 +3,7 @@ use Rattle.std.specs.Prelude.{◌≡◌, ℕ, ◌≤◌, List, [], Ok}
 use Rattle.dh_syntax.specs.declared.tokens.Token.{Token}
 use Rattle.dh_syntax.specs.Text.Lexing.{lex}
 use Rattle.dh_syntax.specs.Text.Offsets.{SpellsWith, location_ends}
-use Rattle.dh_syntax.specs.Expressions.Spellable.{most_nesting}
+use Rattle.dh_syntax.specs.Limits.{most_nesting}
 use Rattle.dh_syntax.specs.Text.Spelling.{IsText, Spells}
 use Rattle.dh_grammar.specs.Machine.{need}
 use Rattle.dh_grammar.specs.Picks.{chosen}
