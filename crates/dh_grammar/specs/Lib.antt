@@ -11,5 +11,4 @@ pub mod Reading
 pub mod Running
 pub mod Stubs
 pub mod Trees
-pub mod Values
 pub mod WithOffsets

@@ -16,4 +16,4 @@ pub use derivations::{
 pub use offsets::{has_offsets, offsets_are_unique, reads_offsets};
 pub use readings::{cannot_stand, goes_on, lacks_gap, opens_too_many};
 pub use stretches::{has_stretches, stretches_are_unique};
-pub use texts::{parsed_is_spellable, parses, parses_once, spelling_is_unique, spells_values};
+pub use texts::{parsed_is_spellable, parses, parses_once, spelling_is_unique, spells_in_range};

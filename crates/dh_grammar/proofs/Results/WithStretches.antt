@@ -6,12 +6,13 @@ use Rattle.dh_syntax.specs.declared.tokens.Mark.TheVariants.{ParenClose, Bracket
 use Rattle.dh_syntax.specs.declared.tokens.Token.{Token}
 use Rattle.dh_syntax.specs.declared.tokens.TokenKind.{TokenKind}
 use Rattle.dh_syntax.specs.declared.tokens.TokenKind.TheVariants as kinds
-use Rattle.dh_syntax.specs.Expressions.Spellable.{IsSpellable, most_nesting}
+use Rattle.dh_syntax.specs.Limits.{most_nesting, most_open}
+use Rattle.dh_syntax.specs.Expressions.Spellable.{IsSpellable}
 use Rattle.dh_syntax.specs.Text.Derivation.{Derivation}
 use Rattle.dh_syntax.specs.Text.Lexing.{lex}
 use Rattle.dh_syntax.specs.Text.Meaning.{meaning}
 use Rattle.dh_syntax.specs.Text.Spans.{SpellsAt, in_text}
-use Rattle.dh_syntax.specs.Text.Spelling.{IsText, most_open}
+use Rattle.dh_syntax.specs.Text.Spelling.{IsText}
 use Rattle.dh_grammar.specs.Inside.Cut.{cut, cut_tree}
 use Rattle.dh_grammar.specs.Inside.Forget.{ftree}
 use Rattle.dh_grammar.specs.Inside.Located.{place, count, tree_at, open_at, shut_at, wait_at, stack_at, located}
