@@ -1,6 +1,4 @@
-pub mod Besides
 pub mod Carrying
-pub mod Composing
 pub mod Counting
 pub mod Cutting
 pub mod Forgetting

@@ -1,4 +1,3 @@
-pub mod Both
 pub mod Depths
 pub mod Inside
 pub mod Laws
@@ -11,4 +10,3 @@ pub mod Reading
 pub mod Running
 pub mod Stubs
 pub mod Trees
-pub mod WithOffsets

@@ -1,36 +1,23 @@
 -- The machine over stretches reads what the machine over derivation trees reads, and finds the stretches of its tree.
-use Rattle.std.proofs.Common.{◌≡◌, ℕ, suc, ◌≤◌, Bool, true, false, List, [], ◌∷◌, refl, sym, ◌∙◌, ap, subst, arith}
-use Rattle.std.specs.Prelude.{not, ◌||◌, if◌then◌else◌, nat_lt, Ok}
+use Rattle.std.proofs.Common.{◌≡◌, ℕ, suc, Bool, true, false, List, [], ◌∷◌, refl, sym, ◌∙◌, ap, subst}
+use Rattle.std.specs.Prelude.{not, ◌||◌, if◌then◌else◌, nat_lt}
 use Rattle.dh_syntax.specs.declared.tokens.Keyword.TheVariants as keywords
 use Rattle.dh_syntax.specs.declared.tokens.Mark.TheVariants.{ParenClose, BracketClose, BraceClose, AngleClose, Comma, Equals, Bar}
 use Rattle.dh_syntax.specs.declared.tokens.Token.{Token}
 use Rattle.dh_syntax.specs.declared.tokens.TokenKind.{TokenKind}
 use Rattle.dh_syntax.specs.declared.tokens.TokenKind.TheVariants as kinds
-use Rattle.dh_syntax.specs.Limits.{most_nesting, most_open}
-use Rattle.dh_syntax.specs.Expressions.Spellable.{IsSpellable}
-use Rattle.dh_syntax.specs.Text.Derivation.{Derivation}
-use Rattle.dh_syntax.specs.Text.Lexing.{lex}
-use Rattle.dh_syntax.specs.Text.Meaning.{meaning}
-use Rattle.dh_syntax.specs.Text.Spans.{SpellsAt, in_text}
-use Rattle.dh_syntax.specs.Text.Spelling.{IsText}
-use Rattle.dh_grammar.specs.Inside.Cut.{cut, cut_tree}
-use Rattle.dh_grammar.specs.Inside.Forget.{ftree}
+use Rattle.dh_syntax.specs.Limits.{most_open}
+use Rattle.dh_syntax.specs.Text.Spans.{in_text, spans_of}
 use Rattle.dh_grammar.specs.Inside.Located.{place, count, tree_at, open_at, shut_at, wait_at, stack_at, located}
-use Rattle.dh_grammar.specs.Laws.Derivations.{OutcomeIsRight}
-use Rattle.dh_grammar.specs.Laws.Stretches.{ReadsStretches, FollowsStubs}
+use Rattle.dh_grammar.specs.Laws.Stretches.{ReadsStretches, PlacesStubs}
 use Rattle.dh_grammar.specs.Machine as machine
 use Rattle.dh_grammar.specs.Machine.{left, update, body, target, first, letting, «open», shut, need, have, wait, done, stopped, open_gap, shut_gap, gap_on, wait_gap, gap_at, open_depth, shut_depth, depth_on, depth_out, begin_depth, extend_depth, depth_at}
 use Rattle.dh_grammar.specs.Placing.{Placed, place_sorts, placing}
-use Rattle.dh_grammar.specs.Reading.{Outcome, accepted, unfinished, refused, nested, outcome_map, runs_still, outcome_of, step, reading, reading_at}
-use Rattle.dh_grammar.specs.Stubs.{Kept, stubs}
+use Rattle.dh_grammar.specs.Reading.{Outcome, accepted, refused, nested, outcome_map, runs_still, outcome_of, step, reading, reading_at}
 use Rattle.dh_grammar.specs.Trees.{Open, Shut, Wait, Stack, State, trees}
-use Rattle.dh_grammar.proofs.Grammar.Outcomes.{answers}
-use Rattle.dh_grammar.proofs.Lexed.LexedTokens.{means_spellable}
 use Rattle.dh_grammar.proofs.Maps.Counting.{Counts, counts}
-use Rattle.dh_grammar.proofs.Maps.Cutting.{Cut, few, many, is_cut, cuts}
-use Rattle.dh_grammar.proofs.Maps.Forgetting.{forgets}
 use Rattle.dh_grammar.proofs.Maps.Locating.{locates}
-use Rattle.dh_grammar.proofs.Maps.Readings.{carry_reading}
+use Rattle.dh_grammar.proofs.Results.Spelled.{spelled, follows}
 
 -- ---- gaps and depths
 
@@ -133,15 +120,15 @@ record Follows (n : ℕ) (k : TokenKind) (s : State) : Type 0 where
   counted : Counts (suc n) (machine.after trees k s)
   same : located (machine.after trees k s) ≡ machine.after (placing n) k (located s)
 
-follows_by : (n : ℕ) (k : TokenKind) (s : State) → count s ≡ n → Follows n k s
-follows_by n k s e = record { counted = subst (λ n. Counts (suc n) (machine.after trees k s)) e (counts k s); same = locates k s ∙ ap (λ n. machine.after (placing n) k (located s)) e }
+goes_by : (n : ℕ) (k : TokenKind) (s : State) → count s ≡ n → Follows n k s
+goes_by n k s e = record { counted = subst (λ n. Counts (suc n) (machine.after trees k s)) e (counts k s); same = locates k s ∙ ap (λ n. machine.after (placing n) k (located s)) e }
 
-follows : (n : ℕ) (k : TokenKind) (s : State) → Counts n s → Follows n k s
-follows n k (need st) e = follows_by n k (need st) e
-follows n k (have st h) e = follows_by n k (have st h) e
-follows n k (wait w st) e = follows_by n k (wait w st) e
-follows n k (done d) e = follows_by n k (done d) e
-follows n k stopped e = record { counted = tt; same = refl }
+goes_with : (n : ℕ) (k : TokenKind) (s : State) → Counts n s → Follows n k s
+goes_with n k (need st) e = goes_by n k (need st) e
+goes_with n k (have st h) e = goes_by n k (have st h) e
+goes_with n k (wait w st) e = goes_by n k (wait w st) e
+goes_with n k (done d) e = goes_by n k (done d) e
+goes_with n k stopped e = record { counted = tt; same = refl }
 
 counts_step : (b : Bool) (n : ℕ) (s : State) → Counts n s → Counts n (if b then s else stopped)
 counts_step true n s h = h
@@ -156,7 +143,7 @@ step_at n s t f =
 read_at : (ts : List Token) (n : ℕ) (s : State) → Counts n s → reading_at placing n (located s) ts ≡ outcome_map (tree_at 0) (reading trees s ts)
 read_at [] n s h = end_at s
 read_at (t ∷ ts) n s h =
-    let f = follows n t.kind s h in
+    let f = goes_with n t.kind s h in
     let u = step trees s t in
     let go : machine.State place_sorts → Bool → ℕ → Outcome Placed = λ v b d. if b then (if nat_lt most_open d then nested else reading_at placing (suc n) v ts) else refused t.from in
     ap (λ v. go v (runs_still v) (depth_at (located s) t.kind)) (sym (step_at n s t f))
@@ -168,45 +155,14 @@ read_at (t ∷ ts) n s h =
 
 -- ---- what a text spells
 
-stub_reading : (ts : List Token) → reading stubs (need []) ts ≡ outcome_map cut_tree (outcome_map ftree (reading trees (need []) ts))
-stub_reading ts = carry_reading cuts ts (need []) ∙ ap (outcome_map cut_tree) (carry_reading forgets ts (need []))
-
-kept_is : (a b : Kept) → ◌≡◌ {A = Outcome Kept} (accepted a) (accepted b) → a ≡ b
-kept_is a b h = cc
-
 placed_is : (a b : Placed) → ◌≡◌ {A = Outcome Placed} (accepted a) (accepted b) → a ≡ b
 placed_is a b h = cc
 
-spells_by : (bytes : List ℕ) (ts : List Token) (d : Derivation) → IsText bytes → (e : lex bytes ≡ Ok ts) → (h : OutcomeIsRight ts (accepted d)) → (cut (meaning d)).nests ≤ most_nesting → Cut (meaning d)
-    → SpellsAt bytes (cut (meaning d)).expression (in_text ts (tree_at 0 d).nodes)
-spells_by bytes ts d i e h n (few k c) = (
-  record { is_text = i; tokens = ts; lexed = e; tree = d; derives = h.0; few_open = h.1; means = sym (ap (λ p. p.expression) c); spellable = subst (λ x. IsSpellable x) (sym (ap (λ p. p.expression) c)) (means_spellable bytes ts e d h.0 k) },
-  refl,
-)
-spells_by bytes ts d i e h n (many k c) = absurd (let m = ap (λ p. p.nests) c in omega arith)
-
-reached_by : (bytes : List ℕ) (ts : List Token) (x : Kept) (p : Placed) (o : Outcome Derivation) → IsText bytes → lex bytes ≡ Ok ts → x.part.nests ≤ most_nesting → OutcomeIsRight ts o
-    → outcome_map cut_tree (outcome_map ftree o) ≡ accepted x → outcome_map (tree_at 0) o ≡ accepted p → SpellsAt bytes x.part.expression (in_text ts p.nodes)
-reached_by bytes ts x p (accepted d) i e n h q r =
-    let s = kept_is (cut_tree (ftree d)) x q in
-    subst (λ y. SpellsAt bytes y.part.expression (in_text ts p.nodes)) s
-    (subst (λ y. SpellsAt bytes (cut (meaning d)).expression (in_text ts y.nodes)) (placed_is (tree_at 0 d) p r)
-    (spells_by bytes ts d i e h (subst (λ y. y.part.nests ≤ most_nesting) (sym s) n) (is_cut (meaning d))))
-reached_by bytes ts x p unfinished i e n h q r = absurd cc
-reached_by bytes ts x p (refused k) i e n h q r = absurd cc
-reached_by bytes ts x p nested i e n h q r = absurd cc
-
 pub reads_stretches : ReadsStretches
 reads_stretches bytes ts x p i e n q r =
-    reached_by bytes ts x p (reading trees (need []) ts) i e n (answers ts) (sym (stub_reading ts) ∙ q) (sym (read_at ts 0 (need []) refl) ∙ r)
+    let s = spelled bytes ts x i e n q in
+    let same : tree_at 0 s.tree ≡ p = placed_is (tree_at 0 s.tree) p (sym (ap (outcome_map (tree_at 0)) s.read) ∙ sym (read_at ts 0 (need []) refl) ∙ r) in
+    (s.spells, ap (λ ts. spans_of ts s.spells.tree) s.tokens_are ∙ ap (spans_of ts) s.tree_is ∙ ap (λ p. in_text ts p.nodes) same)
 
-follows_outcome : (o : Outcome Derivation) (x : Kept) → outcome_map cut_tree (outcome_map ftree o) ≡ accepted x → (p : Placed) × (outcome_map (tree_at 0) o ≡ accepted p)
-follows_outcome (accepted d) x q = (tree_at 0 d, refl)
-follows_outcome unfinished x q = absurd cc
-follows_outcome (refused k) x q = absurd cc
-follows_outcome nested x q = absurd cc
-
-pub follows_stubs : FollowsStubs
-follows_stubs ts x q =
-    let f = follows_outcome (reading trees (need []) ts) x (sym (stub_reading ts) ∙ q) in
-    (f.0, read_at ts 0 (need []) refl ∙ f.1)
+pub places_stubs : PlacesStubs
+places_stubs ts x q = let f = follows (tree_at 0) ts x q in (f.0, read_at ts 0 (need []) refl ∙ f.1)

@@ -1,6 +1,5 @@
 -- What holds of the tokens of a text.
-use Rattle.std.specs.Prelude.{Bool, true, false, ◌&&◌, not, ◌==◌, nat_lt, List, [], ◌∷◌, length, Option, Some, None, IsTrue}
-use Rattle.std.specs.List.{list_all}
+use Rattle.std.specs.Prelude.{Bool, true, false, ◌&&◌, not, List, [], ◌∷◌}
 use Rattle.dh_syntax.specs.declared.tokens.TokenKind.{TokenKind}
 use Rattle.dh_syntax.specs.declared.tokens.TokenKind.TheVariants as kinds
 use Rattle.dh_syntax.specs.Expressions.Arity.{loc_fits}

@@ -25,5 +25,5 @@ ReadsStretches =
     → SpellsAt bytes x.part.expression (in_text ts p.nodes)
 
 -- the machine over stretches accepts the tokens that the machine over expressions accepts
-abbrev pub FollowsStubs : Type 0
-FollowsStubs = (ts : List Token) (x : Kept) → reading stubs (need []) ts ≡ accepted x → (p : Placed) × (reading_at placing 0 (need []) ts ≡ accepted p)
+abbrev pub PlacesStubs : Type 0
+PlacesStubs = (ts : List Token) (x : Kept) → reading stubs (need []) ts ≡ accepted x → (p : Placed) × (reading_at placing 0 (need []) ts ≡ accepted p)
