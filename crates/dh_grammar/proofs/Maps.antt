@@ -1,7 +1,7 @@
-pub mod Besides
 pub mod Carrying
-pub mod Composing
+pub mod Counting
 pub mod Cutting
 pub mod Forgetting
+pub mod Locating
 pub mod Picking
 pub mod Readings

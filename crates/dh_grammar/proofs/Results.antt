@@ -4,5 +4,7 @@ pub mod Ending
 pub mod OneOutcome
 pub mod Parsing
 pub mod ReadingSteps
+pub mod Spelled
 pub mod Unique
 pub mod WithOffsets
+pub mod WithStretches

@@ -1,4 +1,3 @@
-pub mod Both
 pub mod Depths
 pub mod Inside
 pub mod Laws
@@ -6,9 +5,8 @@ pub mod Machine
 pub mod Making
 pub mod Parsed
 pub mod Picks
+pub mod Placing
 pub mod Reading
 pub mod Running
 pub mod Stubs
 pub mod Trees
-pub mod Values
-pub mod WithOffsets

@@ -1,5 +1,5 @@
 -- Runs of any of the machines, and what they come to.
-use Rattle.std.specs.Prelude.{ℕ, Bool, true, false, not, nat_lt, ◌||◌, if◌then◌else◌, List, [], ◌∷◌}
+use Rattle.std.specs.Prelude.{ℕ, suc, Bool, true, false, not, nat_lt, ◌||◌, if◌then◌else◌, List, [], ◌∷◌}
 use Rattle.dh_syntax.specs.declared.tokens.Token.{Token}
 use Rattle.dh_syntax.specs.Limits.{most_open}
 use Rattle.dh_grammar.specs.Making.{Sorts, Making}
@@ -40,3 +40,11 @@ module _ {K : Sorts} (m : Making K) where
   reading s (t ∷ ts) =
       let on = reading (step s t) ts in
       if runs_still (step s t) then (if nat_lt most_open (depth_at s t.kind) then nested else on) else refused t.from
+
+module _ {K : Sorts} (m : ℕ → Making K) where
+  -- the same, where what a step makes depends on the number of the token that it reads
+  abbrev pub reading_at : ℕ → State K → List Token → Outcome (K.tree)
+  reading_at n s [] = outcome_of s
+  reading_at n s (t ∷ ts) =
+      let on = reading_at (suc n) (step (m n) s t) ts in
+      if runs_still (step (m n) s t) then (if nat_lt most_open (depth_at s t.kind) then nested else on) else refused t.from

@@ -1,7 +1,9 @@
 //! How deep expressions nest, and how many stand open.
+ghost use Rattle.std.specs.Prelude.{ℕ};
 ghost use Rattle.dh_grammar.specs.Laws.Depths.{DeepExactly, StubsSpread, KeepsWithin, TestsDepth};
+ghost use Rattle.dh_grammar.specs.Picks.{picking};
+ghost use Rattle.dh_grammar.specs.Placing.{placing};
 ghost use Rattle.dh_grammar.specs.Stubs.{stubs};
-ghost use Rattle.dh_grammar.specs.WithOffsets.{with_picks};
 
 /// Tokens derive what nests too deep exactly where the machine accepts them with a stub.
 pub fn deep_exactly()
@@ -16,11 +18,13 @@ pub fn stubs_spread()
 /// A token that does not open too many expressions keeps the machine within the limit.
 pub fn keeps_within()
     ensures expressions { KeepsWithin stubs }
-    ensures with_offsets { KeepsWithin with_picks }
+    ensures offsets { KeepsWithin picking }
+    ensures stretches { (n : ℕ) → KeepsWithin (placing n) }
 {}
 
 /// Within the limit a reader has to count only where an operand begins.
 pub fn tests_depth()
     ensures expressions { TestsDepth stubs }
-    ensures with_offsets { TestsDepth with_picks }
+    ensures offsets { TestsDepth picking }
+    ensures stretches { (n : ℕ) → TestsDepth (placing n) }
 {}

@@ -13,7 +13,7 @@ pub use depths::{deep_exactly, keeps_within, stubs_spread, tests_depth};
 pub use derivations::{
     accepts, derivation_is_unique, first_fault, knows_depths, knows_nesting, no_dead_states,
 };
-pub use offsets::{has_offsets, offsets_are_unique, reads_offsets};
-pub use readings::{cannot_stand, goes_on, lacks_gap, opens_too_many};
-pub use stretches::{has_stretches, stretches_are_unique};
-pub use texts::{parsed_is_spellable, parses, parses_once, spelling_is_unique, spells_values};
+pub use offsets::{has_offsets, numbers_stubs, offsets_are_unique, reads_offsets};
+pub use readings::{cannot_stand, goes_on, lacks_gap, opens_too_many, reads_alike};
+pub use stretches::{has_stretches, places_stubs, reads_stretches, stretches_are_unique};
+pub use texts::{parsed_is_spellable, parses, parses_once, spelling_is_unique, spells_in_range};

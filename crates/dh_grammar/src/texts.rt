@@ -1,5 +1,5 @@
 //! Every text has exactly one answer.
-ghost use Rattle.dh_grammar.specs.Laws.Texts.{Parses, ParsesOnce, SpellingIsUnique, ParsedIsSpellable, SpellsValues};
+ghost use Rattle.dh_grammar.specs.Laws.Texts.{Parses, ParsesOnce, SpellingIsUnique, ParsedIsSpellable, SpellsInRange};
 
 /// Every text has the answer of the function `parsed`.
 pub fn parses()
@@ -22,6 +22,6 @@ pub fn parsed_is_spellable()
 {}
 
 /// What a text spells has its numbers and digests in range.
-pub fn spells_values()
-    ensures { SpellsValues }
+pub fn spells_in_range()
+    ensures { SpellsInRange }
 {}

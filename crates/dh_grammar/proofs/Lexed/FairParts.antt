@@ -16,19 +16,19 @@ use Rattle.dh_syntax.specs.Expressions.Order.{before, ascending}
 use Rattle.dh_syntax.proofs.Order.{before-total}
 use Rattle.dh_syntax.specs.Expressions.Spellable.{is_label, names_spellable, row_spellable, op_spellable, binder_spellable}
 use Rattle.dh_syntax.specs.Expressions.Tree.{Row, Node, end, kid, Name, Var, Term}
-use Rattle.dh_grammar.specs.Values.{op_values, has_values, row_values}
+use Rattle.dh_syntax.specs.Expressions.Values.{op_in_range, every, every_part}
 use Rattle.dh_grammar.proofs.Maps.Cutting.{by_bool}
 use Rattle.dh_grammar.proofs.TruthValues.{both, left_of, right_of}
 
 pub record Fair (e : Term) : Type 0 where
   pub well : IsWellFormed e
   pub named : IsTrue (names_spellable e)
-  pub valued : IsTrue (has_values e)
+  pub valued : IsTrue (every op_in_range e)
 
 pub record FairRow (r : Row Var Name) : Type 0 where
   pub well : AreWellFormed r
   pub named : IsTrue (row_spellable r)
-  pub valued : IsTrue (row_values r)
+  pub valued : IsTrue (every_part op_in_range r)
 
 pub fair_end : FairRow end
 fair_end = record { well = tt; named = refl; valued = refl }
@@ -41,18 +41,18 @@ fair_kid b e r h f k =
 pub fair_part : (e : Term) (r : Row Var Name) → Fair e → FairRow r → FairRow (kid None e r)
 fair_part e r f k = fair_kid None e r refl f k
 
-pub fair_node : (op : Op) (r : Row Var Name) → IsTrue (fits op r) → IsTrue (op_spellable op) → IsTrue (op_values op) → FairRow r → Fair (Node op r)
+pub fair_node : (op : Op) (r : Row Var Name) → IsTrue (fits op r) → IsTrue (op_spellable op) → IsTrue (op_in_range op) → FairRow r → Fair (Node op r)
 fair_node op r a b c k =
     let kn = k.named in let kv = k.valued in
     record { well = (a, k.well); named = rw (b, kn) refl; valued = rw (c, kv) refl }
 
-pub fair_one : (op : Op) (e : Term) → IsTrue (fits op (parts (e ∷ []))) → IsTrue (op_spellable op) → IsTrue (op_values op) → Fair e → Fair (Node op (parts (e ∷ [])))
+pub fair_one : (op : Op) (e : Term) → IsTrue (fits op (parts (e ∷ []))) → IsTrue (op_spellable op) → IsTrue (op_in_range op) → Fair e → Fair (Node op (parts (e ∷ [])))
 fair_one op e a b c f = fair_node op (parts (e ∷ [])) a b c (fair_part e end f fair_end)
 
-pub fair_two : (op : Op) (e d : Term) → IsTrue (fits op (parts (e ∷ d ∷ []))) → IsTrue (op_spellable op) → IsTrue (op_values op) → Fair e → Fair d → Fair (Node op (parts (e ∷ d ∷ [])))
+pub fair_two : (op : Op) (e d : Term) → IsTrue (fits op (parts (e ∷ d ∷ []))) → IsTrue (op_spellable op) → IsTrue (op_in_range op) → Fair e → Fair d → Fair (Node op (parts (e ∷ d ∷ [])))
 fair_two op e d a b c f g = fair_node op (parts (e ∷ d ∷ [])) a b c (fair_part e _ f (fair_part d end g fair_end))
 
-pub fair_three : (op : Op) (e d x : Term) → IsTrue (fits op (parts (e ∷ d ∷ x ∷ []))) → IsTrue (op_spellable op) → IsTrue (op_values op) → Fair e → Fair d → Fair x → Fair (Node op (parts (e ∷ d ∷ x ∷ [])))
+pub fair_three : (op : Op) (e d x : Term) → IsTrue (fits op (parts (e ∷ d ∷ x ∷ []))) → IsTrue (op_spellable op) → IsTrue (op_in_range op) → Fair e → Fair d → Fair x → Fair (Node op (parts (e ∷ d ∷ x ∷ [])))
 fair_three op e d x a b c f g h = fair_node op (parts (e ∷ d ∷ x ∷ [])) a b c (fair_part e _ f (fair_part d _ g (fair_part x end h fair_end)))
 
 -- ---- lists of parts

@@ -20,7 +20,8 @@ use Rattle.dh_syntax.specs.Expressions.Spellable.{is_label, location_spellable}
 use Rattle.dh_syntax.specs.Limits.{most_index}
 use Rattle.dh_syntax.specs.Expressions.Tree.{Leaf, end, Name, Term}
 use Rattle.dh_syntax.specs.Text.Yield.{Written, token, mark, keyword, name, name_kind, key_kind, import_type_kind, apart, free, separator, keys_yield, digest_yield, yield, note_yield, lets_yield, updates_yield, chunks_yield, items_yield, alternatives_yield, fields_yield, entry_yield, entries_yield}
-use Rattle.dh_grammar.specs.Values.{good_kind, digest_if, sound, written_kinds}
+use Rattle.dh_grammar.specs.Inside.SoundTokens.{good_kind, sound, written_kinds}
+use Rattle.dh_syntax.specs.Expressions.Values.{digest_if}
 use Rattle.dh_grammar.proofs.Lexed.FairParts.{Fair, AllFair, FairNote, Fairly, fair_end, fair_kid, fair_part, fair_node, fair_one, fair_two, fair_three, all_last, fair_parts, some_parts, some_last, length_last, fair_text, put_fairly, none_fairly, fair_record, fair_record_type, fair_joined, fair_union, fair_let}
 use Rattle.dh_grammar.proofs.TruthValues.{both, left_of, right_of}
 

@@ -28,7 +28,8 @@ use Rattle.dh_syntax.specs.Limits.{natural_fits}
 use Rattle.dh_syntax.specs.Limits.{integer_fits}
 use Rattle.dh_syntax.specs.Expressions.Spellable.{is_label, is_component}
 use Rattle.dh_syntax.specs.Text.Stretches.{Stretch, UpTo, FaultAt, stretch}
-use Rattle.dh_grammar.specs.Values.{good_kind, digest_fits}
+use Rattle.dh_grammar.specs.Inside.SoundTokens.{good_kind}
+use Rattle.dh_syntax.specs.Expressions.Values.{digest_fits}
 use Rattle.dh_grammar.proofs.Lexed.Bytes.{hex_digit_low, name_is_label, environment_is_quoted, path_is_quoted, all_imply, all_prefix, some_prefix, some_first, whole_prefix, or_case}
 use Rattle.dh_grammar.proofs.TruthValues.{both, left_of, right_of, by_test}
 

@@ -17,7 +17,7 @@ use Rattle.dh_syntax.specs.Text.Meaning.{meaning}
 use Rattle.dh_syntax.specs.Text.Spelling.{AreTokens, Derives}
 use Rattle.dh_syntax.specs.Text.Yield.{Written, token, free, yield}
 use Rattle.dh_syntax.proofs.LexingLaws.{lex-from_start}
-use Rattle.dh_grammar.specs.Values.{good_kind, sound, written_kinds}
+use Rattle.dh_grammar.specs.Inside.SoundTokens.{good_kind, sound, written_kinds}
 use Rattle.dh_grammar.proofs.Lexed.Fairness.{fair}
 use Rattle.dh_grammar.proofs.Lexed.FairParts.{Fair}
 use Rattle.dh_grammar.proofs.Lexed.LexedForms.{found_good, Good, longest_good, white_space_good, line_comment_good, block_comment_good, skipped_line_good, name_good, quoted_name_good, minus_infinity_good, natural_good, integer_good, double_good, signed_double_good, date_good, time_good, signed_time_good, binary_good, bytes_literal_good, double_quoted_opening_good, multi_line_opening_good, text_part_good, mark_good, path_good, environment_good, digest_good}

@@ -21,7 +21,7 @@ use Rattle.dh_syntax.specs.Text.LexForms.{Is, LeftOut, form}
 use Rattle.dh_syntax.specs.Text.LexLocations.{components, label_len, after_dot, more_labels, domain_len, port_len, host_len, begins_percent, by_url_char, url_chars_len, segment, one_or_more, query_of, query_len, url_form, after_scheme, url}
 use Rattle.dh_syntax.specs.Expressions.Spellable.{is_encoded, is_segment, is_query, is_host, after_letter, after_hyphen, query_spellable, url_spellable}
 use Rattle.dh_syntax.specs.Expressions.Spellable as spellable
-use Rattle.dh_grammar.specs.Values.{good_kind}
+use Rattle.dh_grammar.specs.Inside.SoundTokens.{good_kind}
 use Rattle.dh_grammar.proofs.Lexed.Bytes.{all_prefix, prefix_more, or_case}
 use Rattle.dh_grammar.proofs.Maps.Cutting.{by_bool}
 use Rattle.dh_grammar.proofs.Lexed.LexedForms.{Good, form_good, if_good, or_true_left, or_true_right, TextIs, all_components}

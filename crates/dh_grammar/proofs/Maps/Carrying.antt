@@ -19,7 +19,7 @@ use Rattle.dh_grammar.specs.Machine.{Open, Front, Shut, Frame, Held, Wait, Stack
 use Rattle.dh_grammar.specs.Inside.Mapping.{Mapping, Carries, map_open, map_front, map_shut, map_held, map_wait, map_stack, map_state}
 use Rattle.dh_grammar.specs.Making.{option_map}
 
-by_same_test : {A B : Type 0} (g : A → B) (b : Bool) (x y : A) (v w : B) → g x ≡ v → g y ≡ w → g (if b then x else y) ≡ (if b then v else w)
+pub by_same_test : {A B : Type 0} (g : A → B) (b : Bool) (x y : A) (v w : B) → g x ≡ v → g y ≡ w → g (if b then x else y) ≡ (if b then v else w)
 by_same_test g true x y v w d e = d
 by_same_test g false x y v w d e = e
 

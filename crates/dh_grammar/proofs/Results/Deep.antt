@@ -12,15 +12,14 @@ use Rattle.dh_grammar.specs.Inside.Forget.{ftree}
 use Rattle.dh_grammar.specs.Reading.{Outcome, accepted, unfinished, refused, nested, outcome_map, reading}
 use Rattle.dh_grammar.specs.Laws.Derivations.{OutcomeIsRight}
 use Rattle.dh_grammar.specs.Machine.{need}
-use Rattle.dh_grammar.specs.Stubs.{Part, Parts, Kept, deepest, stubs}
+use Rattle.dh_grammar.specs.Stubs.{Part, Parts, Kept, deepest}
 use Rattle.dh_grammar.specs.Inside.Cut.{cut, cut_tree}
-use Rattle.dh_grammar.proofs.Maps.Cutting.{Cut, few, many, is_cut, cuts, kept_many}
-use Rattle.dh_grammar.proofs.Maps.Forgetting.{forgets}
+use Rattle.dh_grammar.proofs.Maps.Cutting.{Cut, few, many, is_cut, kept_many}
 use Rattle.dh_grammar.proofs.Results.OneOutcome.{one_outcome}
-use Rattle.dh_grammar.proofs.Maps.Readings.{carry_reading}
 use Rattle.dh_grammar.proofs.Grammar.Outcomes.{answers}
 use Rattle.dh_grammar.specs.Trees.{trees}
 use Rattle.dh_syntax.specs.Text.Derivation.{Derivation}
+use Rattle.dh_grammar.proofs.Results.Spelled.{stub_reading}
 
 deepest_low : (before after : Parts) (b : Option Name) (p : Part) → suc p.nests ≤ deepest (before ++ (b, p) ∷ after)
 deepest_low [] after b p = omega arith
@@ -28,9 +27,6 @@ deepest_low (q ∷ before) after b p = let h = deepest_low before after b p in o
 
 pub stubs_spread : StubsSpread
 stubs_spread op before after b p h = let d = deepest_low before after b p in kept_many _ (deepest (before ++ (b, p) ∷ after)) (omega arith)
-
-stub_reading : (ts : List Token) → reading stubs (need []) ts ≡ outcome_map cut_tree (outcome_map ftree (reading trees (need []) ts))
-stub_reading ts = carry_reading cuts ts (need []) ∙ ap (outcome_map cut_tree) (carry_reading forgets ts (need []))
 
 stub_nests : (e : Term) → most_nesting < nesting e → Cut e → most_nesting < (cut e).nests
 stub_nests e h (few k c) = absurd (omega arith)

@@ -10,7 +10,6 @@ use Rattle.dh_syntax.specs.Text.Derived.{among}
 use Rattle.dh_syntax.specs.Expressions.Tree.{Name}
 use Rattle.dh_grammar.specs.Making.{Sorts, Making}
 use Rattle.dh_grammar.specs.Machine.{Open, Front, Shut, Held, Wait, Stack, State, left, applied, merged, somed, mapped, update, body, target, otherwise, bound, noted, emptied, asserted, opening, behind, bracket, domain, condition, branch, let_type, let_value, selected, first, items, alternative_type, field_type, entry_value, chunk, «open», shut, named, imported, ready, quantifier, quantified, quantity, domained, asserting, letting, lettered, with_start, with_keys, with_dot, indexed, moded, dotted, projecting, projected, projected_comma, empty, union_start, alternative, alternative_bar, record_start, record_equals, field_comma, field_key, entry_comma, entry_keys, entry_dot, text_front, text_piece, need, have, wait, done, stopped}
-use Rattle.dh_grammar.specs.Both.{both_sorts}
 use Rattle.dh_grammar.specs.Making.{option_map}
 
 -- a map for each kind of part
@@ -156,11 +155,3 @@ module _ {K L : Sorts} (f : Mapping K L) where
   map_state (wait a b) = wait (map_wait a) (map_stack b)
   map_state (done a) = done (f.tree a)
   map_state stopped = stopped
-
--- ---- two maps at once, and one after the other
-
-abbrev pub beside : {J K L : Sorts} → Mapping J K → Mapping J L → Mapping J (both_sorts K L)
-beside f g = record { tree = λ x. (f.tree x, g.tree x); note = λ x. (f.note x, g.note x); lets = λ x. (f.lets x, g.lets x); chunks = λ x. (f.chunks x, g.chunks x); items = λ x. (f.items x, g.items x); alternatives = λ x. (f.alternatives x, g.alternatives x); fields = λ x. (f.fields x, g.fields x); entry = λ x. (f.entry x, g.entry x); entries = λ x. (f.entries x, g.entries x) }
-
-abbrev pub by_way : {J K L : Sorts} → Mapping J K → Mapping K L → Mapping J L
-by_way f g = record { tree = λ x. g.tree (f.tree x); note = λ x. g.note (f.note x); lets = λ x. g.lets (f.lets x); chunks = λ x. g.chunks (f.chunks x); items = λ x. g.items (f.items x); alternatives = λ x. g.alternatives (f.alternatives x); fields = λ x. g.fields (f.fields x); entry = λ x. g.entry (f.entry x); entries = λ x. g.entries (f.entries x) }

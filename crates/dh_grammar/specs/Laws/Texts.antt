@@ -5,7 +5,7 @@ use Rattle.dh_syntax.specs.Expressions.Spellable.{IsSpellable}
 use Rattle.dh_syntax.specs.Text.Spelling.{Spells, ParsesTo}
 use Rattle.dh_syntax.specs.Expressions.Tree.{Term}
 use Rattle.dh_grammar.specs.Parsed.{parsed}
-use Rattle.dh_grammar.specs.Values.{HasValues}
+use Rattle.dh_syntax.specs.Expressions.Values.{IsInRange}
 
 -- a parser that gives `parsed bytes` meets `ParsesTo`
 abbrev pub Parses : Type 0
@@ -22,5 +22,5 @@ abbrev pub ParsedIsSpellable : Type 0
 ParsedIsSpellable = (bytes : List ℕ) (e : Term) → parsed bytes ≡ Ok e → IsSpellable e
 
 -- naturals and integers in range, digests of 32 bytes
-abbrev pub SpellsValues : Type 0
-SpellsValues = (bytes : List ℕ) (e : Term) → Spells bytes e → HasValues e
+abbrev pub SpellsInRange : Type 0
+SpellsInRange = (bytes : List ℕ) (e : Term) → Spells bytes e → IsInRange e

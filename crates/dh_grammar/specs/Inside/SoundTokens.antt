@@ -1,25 +1,13 @@
--- The values of tokens and of expressions: those that a text can give, and that every value of the program has.
-use Rattle.std.specs.Prelude.{Bool, true, false, ◌&&◌, not, ◌==◌, nat_lt, List, [], ◌∷◌, length, Option, Some, None, IsTrue}
-use Rattle.std.specs.List.{list_all}
-use Rattle.dh_syntax.specs.declared.expressions.Op.{Op}
-use Rattle.dh_syntax.specs.declared.expressions.Op.TheVariants as ops
-use Rattle.dh_syntax.specs.declared.locations.Digest.{Digest}
+-- What holds of the tokens of a text.
+use Rattle.std.specs.Prelude.{Bool, true, false, ◌&&◌, not, List, [], ◌∷◌}
 use Rattle.dh_syntax.specs.declared.tokens.TokenKind.{TokenKind}
 use Rattle.dh_syntax.specs.declared.tokens.TokenKind.TheVariants as kinds
 use Rattle.dh_syntax.specs.Expressions.Arity.{loc_fits}
 use Rattle.dh_syntax.specs.Text.Lexing.{Before, is_wide_index, before_after}
 use Rattle.dh_syntax.specs.Limits.{natural_fits, integer_fits}
 use Rattle.dh_syntax.specs.Expressions.Spellable.{is_label, is_environment, location_spellable}
-use Rattle.dh_syntax.specs.Expressions.Tree.{Row, Leaf, Node, end, kid, Name, Var, Term}
 use Rattle.dh_syntax.specs.Text.Yield.{Written}
-
--- 32 bytes
-abbrev pub digest_fits : Digest → Bool
-digest_fits d = (length d.0 == 32) && list_all (λ b. nat_lt b 256) d.0
-
-abbrev pub digest_if : Option Digest → Bool
-digest_if None = true
-digest_if (Some d) = digest_fits d
+use Rattle.dh_syntax.specs.Expressions.Values.{digest_fits}
 
 -- a token before the end, as `lex` gives it
 abbrev pub good_kind : TokenKind → Bool
@@ -42,22 +30,3 @@ sound b (k ∷ ks) = good_kind k && (not (is_wide_index b k) && sound (before_af
 abbrev pub written_kinds : List Written → List TokenKind
 written_kinds [] = []
 written_kinds (w ∷ ws) = w.kind ∷ written_kinds ws
-
-abbrev pub op_values : Op → Bool
-op_values (ops.Nat n) = natural_fits n
-op_values (ops.Int z) = integer_fits z
-op_values (ops.Import i) = digest_if i.digest
-op_values _ = true
-
-abbrev mutual
-  -- naturals and integers in their range, digests of 32 bytes
-  pub has_values : Term → Bool
-  has_values (Leaf x) = true
-  has_values (Node op r) = op_values op && row_values r
-
-  pub row_values : Row Var Name → Bool
-  row_values end = true
-  row_values (kid b e r) = has_values e && row_values r
-
-abbrev pub HasValues : Term → Type 0
-HasValues e = IsTrue (has_values e)

@@ -1,5 +1,0 @@
-use Rattle.dh_grammar.proofs.Results.Answering as proof
-use Rattle.dh_grammar.proofs.texts.spells_values.Goals as goal
-
-pub returns : goal.returns
-returns c = proof.spells_values
