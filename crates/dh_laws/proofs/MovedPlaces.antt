@@ -6,7 +6,7 @@ use Rattle.dh_syntax.specs.declared.expressions.Op.TheVariants as ops
 use Rattle.dh_syntax.specs.declared.operators.Builtin.{Builtin}
 use Rattle.dh_syntax.specs.declared.operators.Builtin.TheVariants as builtins
 use Rattle.dh_syntax.specs.Names.Moves.{Move, moved_binder, entered, moved, moved_row}
-use Rattle.dh_syntax.specs.Normalising.Needs.{Place, part, call_needs, argument_needs, all_parts, node_needs, needs, place, most_needs, part_at, change_part, part_or_self, change_part_of, at, set}
+use Rattle.dh_syntax.specs.Normalising.Needs.{part, call_needs, argument_needs, all_parts, node_needs, needs, place, most_needs, part_at, change_part, part_or_self, change_part_of, at, set, Path}
 use Rattle.dh_syntax.specs.Expressions.Rows.{row_length}
 use Rattle.dh_syntax.specs.Expressions.Tree.{Tree, Row, Leaf, Node, end, kid}
 use Rattle.dh_syntax.specs.Expressions.Views.{as_call}
@@ -87,7 +87,7 @@ module _ {S A B C D : Type 0} (m : Move S A B C D) (s : S) where
   part_or_self-moved i (Leaf a) = refl
   part_or_self-moved i (Node op r) = ap (λ o. unwrap_or o (f (Node op r))) (part_at-moved i r) ∙ self-moved (part_at i r) (Node op r)
 
-  pub at-moved : (p : Place) (e : Tree A B) → at p (f e) ≡ f (at p e)
+  pub at-moved : (p : Path) (e : Tree A B) → at p (f e) ≡ f (at p e)
   at-moved [] e = refl
   at-moved (i ∷ p) e = ap (at p) (part_or_self-moved i e) ∙ at-moved p (part_or_self i e)
 
@@ -104,6 +104,6 @@ module _ {S A B C D : Type 0} (m : Move S A B C D) (s : S) where
   change_part_of-moved i g g' h (Leaf a) = refl
   change_part_of-moved i g g' h (Node op r) = ap (Node op) (change_part-moved i g g' h r)
 
-  pub set-moved : (p : Place) (d e : Tree A B) → set p (f d) (f e) ≡ f (set p d e)
+  pub set-moved : (p : Path) (d e : Tree A B) → set p (f d) (f e) ≡ f (set p d e)
   set-moved [] d e = refl
   set-moved (i ∷ p) d e = change_part_of-moved i (λ k. set p d k) (λ k. set p (f d) k) (λ k. set-moved p d k) e
