@@ -1,5 +1,6 @@
 pub mod Alpha
 pub mod BuiltinNames
+pub mod Decoding
 pub mod Grafts
 pub mod Indices
 pub mod KeptHeads

@@ -1,7 +1,7 @@
 -- Runs of expressions that differ only in the names of their binders.
 use Rattle.std.specs.Prelude.{◌≡◌, ℕ}
 use Rattle.dh_syntax.specs.Names.Alpha.{IsSame}
-use Rattle.dh_syntax.specs.Normalising.Heads.{Mode, Answer, Found, Wide, Deep, Over, run}
+use Rattle.dh_syntax.specs.Normalising.Heads.{Answer, Found, Wide, Deep, Over, run, Extent}
 use Rattle.dh_syntax.specs.Normalising.Named.{names}
 use Rattle.dh_syntax.specs.Expressions.Nesting.{nesting}
 use Rattle.dh_syntax.specs.Normalising.Normal.{endless, HasNormalForm, HasWholeCost, AreEquivalent, HasCost, plain_answer}
@@ -18,13 +18,13 @@ IsSameAnswer Over b = b ≡ Over
 -- same result but for the names of binders.
 abbrev pub SameRuns : Type 0
 SameRuns =
-    (heights : ℕ) (mode : Mode) (units : ℕ) (e f : Term) → IsSame e f
+    (heights : ℕ) (mode : Extent) (units : ℕ) (e f : Term) → IsSame e f
     → IsSameAnswer (run names heights mode units e) (run names heights mode units f)
 
 -- So without an end by nesting.
 abbrev pub SameEndlessRuns : Type 0
 SameEndlessRuns =
-    (heights : ℕ) (mode : Mode) (units : ℕ) (e f : Term) → IsSame e f
+    (heights : ℕ) (mode : Extent) (units : ℕ) (e f : Term) → IsSame e f
     → IsSameAnswer (run (endless names) heights mode units e) (run (endless names) heights mode units f)
 
 -- So the answers of the plain normaliser.

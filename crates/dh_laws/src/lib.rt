@@ -1,8 +1,16 @@
-//! Laws of the language, for the crates that rest on them: each is the contract of a function that does nothing.
+//! Laws of the definitions, for the crates that rest on them: each is the contract of a function that does nothing.
+//!
+//! The statements stand in `specs/`, a file for each module here, as definitions by name, so that a law is read there and
+//! cited from here. A call of the function brings the law into a proof. Lemmas that no other crate cites stay in `proofs/`.
+//!
+//! ```text
+//! label_order_is_total();                 // `before` is irreflexive, transitive and total
+//! ```
 #![tactic(auto)]
 
 mod alpha;
 mod builtins;
+mod decoding;
 mod indices;
 mod kept_heads;
 mod keys;
@@ -19,6 +27,7 @@ pub use alpha::{
     alpha_once, free_after_alpha, same_decides, same_is_an_equivalence,
 };
 pub use builtins::builtin_names_tell;
+pub use decoding::{one_decoding, one_expression};
 pub use indices::{
     indices_and_binders, indices_below_more, indices_of_alpha, indices_of_put, indices_of_shift_up,
     indices_of_subst, indices_put_under,

@@ -141,10 +141,6 @@ braced_some bs ds c n u e len closed named =
     let at = eqb-true (get_or ds n 0) 125 (and-true_right (ltb 0 n) (slice_index ds n == byte "}") closed) in
     (form ∙ numbered_some (digits_value 16 (take n ds)) (4 + n) c named ∙ ap (Reads (encode_utf8 c)) size, after_brace bs ds n u e at)
 
-pub braced_none : (bs ds : List ℕ) (n : ℕ) → bs ≡ byte "{" ∷ ds → n ≡ prefix_len is_ascii_hexdigit ds → is_closed n ds ≡ true → IsNamed (digits_value 16 (take n ds)) None → unicode_escape bs ≡ Faults
-braced_none bs ds n e len closed named =
-    ap unicode_escape e ∙ braced_form ds true (ap (λ k. is_closed k ds) (sym len) ∙ closed) ∙ ap (λ k. numbered (digits_value 16 (take k ds)) (4 + k)) (sym len) ∙ numbered_none (digits_value 16 (take n ds)) (4 + n) named
-
 -- the first byte, and what follows it
 first_is : (bytes bs : List ℕ) (x b : ℕ) → Some x ≡ slice_get bytes 0 → bytes ≡ bs → x ≡ b → bs ≡ b ∷ drop 1 bs
 first_is bytes [] x b e same is =

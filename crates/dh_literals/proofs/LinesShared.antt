@@ -97,10 +97,6 @@ shared_full o rest line more shared split some e =
     ∙ sym (common_with-more o (indentation line) (indentations more))
     ∙ sym (ap (λ ls. common_with o (map indentation ls)) (ap counted (first_line rest line more split) ∙ counted_full line (lines_of more) (has_first more) (not_empty (length line) some)))
 
-pub shared_empty : (o : Option (List ℕ)) (rest line more : List ℕ) → SplitAt line_feed rest line more → length line ≡ 0 → common_with o (indentations more) ≡ common_with o (indentations rest)
-shared_empty o rest [] more split none = sym (ap (λ ls. common_with o (map indentation ls)) (ap counted (first_line rest [] more split) ∙ counted_empty (lines_of more) (has_first more)))
-shared_empty o rest (b ∷ bs) more split none = absurd (omega (arith, none))
-
 pub shared_last : (o : Option (List ℕ)) (rest : List ℕ) → Lacks line_feed rest → common_with o (indentation rest ∷ []) ≡ common_with o (indentations rest)
 shared_last o rest h = sym (ap (λ ls. common_with o (map indentation (counted ls))) (one_line rest h))
 

@@ -1,3 +1,5 @@
+//! Texts between double quotes, printed.
+
 ghost use Rattle.std.specs.Prelude.{◌≡◌, ◌++◌, string_bytes, encode_utf8, IfOk, OnOk};
 ghost use Rattle.dh_syntax.specs.Text.Literals.{escape};
 

@@ -1,3 +1,5 @@
+//! Why a literal was not read.
+
 ghost use Rattle.std.specs.Prelude.{◌≡◌};
 
 use std::alloc::AllocError;

@@ -1,3 +1,5 @@
+//! The indentation of multi-line texts.
+
 ghost use Rattle.std.specs.Prelude.{◌≡◌, [], ◌∷◌, ◌++◌, map, take, drop, nat_eq, string_bytes, IsTrue, IfOk, OnOk};
 ghost use Rattle.std.specs.List.{common_prefix_len, prefix_len, join_with_byte, list_all};
 ghost use Rattle.std.specs.Option.{option_copied};

@@ -1,4 +1,14 @@
-//! Literals: numbers and texts as they are written, read and printed.
+//! Literals: numbers and texts as they are written, read and printed (`dhall.abnf`, "natural-literal" to
+//! "single-quote-literal").
+//!
+//! Reading is given one whole literal, as the tokens of a text have it, and answers `None` or `BadEscape` exactly where it is
+//! out of range or no literal. Printing gives the one text that the program prints, and what is printed is read back
+//! (`laws`).
+//!
+//! ```text
+//! let n = read_natural("0xFF");           // Some(255)
+//! let text = write_integer(alloc, 7)?;    // `+7`
+//! ```
 #![tactic(auto)]
 
 mod escapes;

@@ -1,3 +1,5 @@
+//! Natural numbers and integers.
+
 ghost use Rattle.std.specs.Prelude.{◌≡◌, ◌++◌, IsTrue, IfOk, OnOk, string_bytes};
 ghost use Rattle.dh_syntax.specs.Text.Numerals.{is_natural, is_integer, read_natural, read_integer, write_natural, write_integer};
 

@@ -1,3 +1,5 @@
+//! Canonical locations: without the components `.` and `..`, where they can go.
+
 ghost use Rattle.std.specs.Prelude.{◌≡◌, ◌∷◌, [], ◌<◌, ◌≤◌, length, take, drop, slice_index_or, vec_len, IsTrue, MatchOption};
 ghost use Rattle.dh_syntax.specs.declared.locations.Loc.TheVariants.{Here};
 ghost use Rattle.dh_syntax.specs.Imports.Locations as spec;

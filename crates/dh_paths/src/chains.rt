@@ -1,3 +1,5 @@
+//! The location of an import in a text at another location.
+
 ghost use Rattle.std.specs.Prelude.{◌≡◌, ◌++◌, map, IfOk, OnOk};
 ghost use Rattle.std.specs.Option.{option_copied};
 ghost use Rattle.dh_syntax.specs.Imports.Locations as spec;

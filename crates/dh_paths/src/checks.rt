@@ -1,3 +1,5 @@
+//! The two tests on an import in a text from the web.
+
 ghost use Rattle.std.specs.Prelude.{◌≡◌, codes};
 ghost use Rattle.std.specs.Option.{option_copied, option_map};
 ghost use Rattle.dh_syntax.specs.Imports.Locations as spec;

@@ -1,3 +1,5 @@
+//! Components of paths as components of URLs.
+
 ghost use Rattle.std.specs.Prelude.{◌≡◌, ◌++◌, IfOk, OnOk, string_bytes};
 ghost use Rattle.dh_syntax.specs.Imports.Locations as spec;
 

@@ -1,4 +1,13 @@
 //! Locations of imports: made canonical, chained, tested and written as text (the standard's "Import resolution").
+//!
+//! A text at one location imports another one by the location that `chain` gives. A canonical location stays as it is, and a
+//! chained one is canonical and can be spelled where both can (`laws`). `sane` and `cors` say whether a text from the web may
+//! import what it names.
+//!
+//! ```text
+//! let at = chain(alloc, Some(&parent), &child)?;      // `./a/b` and `../c` give `./c`
+//! let text = loc_text(alloc, &at)?;
+//! ```
 #![tactic(auto)]
 
 mod canonical;

@@ -1,3 +1,5 @@
+//! Tables of locations whose answers are worked out by hand.
+
 use crate::{canon, chain, cors, loc_text, sane};
 use dh_syntax::{Bytes, Comps, Loc, Many, Mode, Piece, Url};
 use std::alloc::{AllocError, Global};

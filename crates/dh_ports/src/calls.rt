@@ -1,3 +1,5 @@
+//! The calls that a feed or a sink in memory lets fail.
+
 ghost use Rattle.std.specs.Prelude.{◌≡◌, [], Contains, IsTrue, ◌↔◌};
 ghost use Rattle.dh_ports.specs.Counts.{one_more, Rose};
 

@@ -1,4 +1,13 @@
 //! The streams that the command reads from and writes to: the traits that devices meet, and both in memory.
+//!
+//! A [`Feed`] gives bytes and a [`Sink`] takes them. Each may tell what it has left or has taken, so that contracts can speak
+//! of it, and counts its failed calls: a call that fails changes nothing else. [`MemFeed`] and [`MemSink`] fail exactly at the
+//! calls that they are told to, for tests of what a run does when a device fails.
+//!
+//! ```text
+//! let mut feed = MemFeed::new(alloc, bytes, failing_calls);
+//! let count = feed.read(&mut buffer)?;    // 0 at the end alone
+//! ```
 #![tactic(auto)]
 
 mod calls;

@@ -1,3 +1,5 @@
+//! A feed in memory.
+
 ghost use Rattle.std.specs.Prelude.{◌≡◌, ◌≤◌, ◌++◌, Some, length, min, take, drop, Contains, IsErr, IfOk, OnErr, ◌↔◌};
 ghost use Rattle.dh_ports.specs.Counts.{one_more, Rose};
 ghost use Rattle.dh_ports.specs.MemFeed.{HasRead, HasFailed};

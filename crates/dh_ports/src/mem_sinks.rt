@@ -1,3 +1,5 @@
+//! A sink in memory.
+
 ghost use Rattle.std.specs.Prelude.{◌≡◌, [], ◌<◌, ◌≤◌, length, Some, Contains, IsErr, IfOk, OnOk, OnErr, ◌⊎◌};
 ghost use Rattle.dh_ports.specs.Counts.{one_more, Rose};
 ghost use Rattle.dh_ports.specs.MemSink.{HasWritten, HasFailed};

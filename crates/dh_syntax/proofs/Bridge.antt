@@ -46,10 +46,6 @@ at_term-Var F e x n h = ap (λ d. F (term d)) h ∙ ap F (term-Var x n)
 pub at_term-Node : {Y : Type 0} (F : Term → Y) (e : Expr) (op : Op) (ks : List Kid) → e ≡ expr.Node op ks → F (term e) ≡ F (tree.Node op (row_of ks))
 at_term-Node F e op ks h = ap (λ d. F (term d)) h ∙ ap F (term-Node op ks)
 
--- A node that is made of an operator and kids.
-pub term_made : (op made : Op) (ks : List Kid) (r : Row tree.Var Name) → made ≡ op → row_of ks ≡ r → term (expr.Node made ks) ≡ tree.Node op r
-term_made op made ks r h g = term-Node made ks ∙ ap (λ o. tree.Node o (row_of ks)) h ∙ ap (tree.Node op) g
-
 -- The way back, from plain trees to expressions.
 abbrev mutual
   pub expr_of : Term → Expr

@@ -26,18 +26,12 @@ Decides-le m n = (le-true m n, true-le m n)
 pub Decides-lt : (m n : ℕ) → Decides (lt m n) (m < n)
 Decides-lt m n = (λ h. omega (arith, le-true (suc m) n h), λ h. true-le (suc m) n (omega arith))
 
-pub Decides-bytes_eq : (x y : List ℕ) → Decides (bytes_eq x y) (x ≡ y)
-Decides-bytes_eq x y = (bytes_eq-true x y, λ e. ap (bytes_eq x) (sym e) ∙ bytes_eq-itself x)
-
 -- The native tests.
 pub eq-native : (m n : ℕ) → eq m n ≡ (m == n)
 eq-native m n = same_from_decides (eq m n) (m == n) (Decides-eq m n) (Decides-eqb m n)
 
 pub lt-native : (m n : ℕ) → lt m n ≡ nat_lt m n
 lt-native m n = same_from_decides (lt m n) (nat_lt m n) (Decides-lt m n) (Decides-ltb m n)
-
-pub le-native : (m n : ℕ) → le m n ≡ nat_le m n
-le-native m n = same_from_decides (le m n) (nat_le m n) (Decides-le m n) (leb-true m n, le-leb m n)
 
 pub bytes_eq-pointwise : (x y : List ℕ) → bytes_eq x y ≡ pointwise nat_eq x y
 bytes_eq-pointwise [] [] = refl

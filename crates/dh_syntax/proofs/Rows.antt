@@ -46,9 +46,6 @@ pub at_row_of-drop_item : {Y : Type 0} (F : Row Var Name → Y) (ks : List Kid) 
     F (row_of (drop i ks)) ≡ F (kid k.binder (term k.body) (row_of (drop (i + 1) ks)))
 at_row_of-drop_item F ks i k h e = ap F (row_of-drop_item ks i k h e)
 
-pub row_of-drop : (ks : List Kid) (i : ℕ) (k : Kid) → slice_get ks i ≡ Some k → row_of (drop i ks) ≡ kid k.binder (term k.body) (row_of (drop (i + 1) ks))
-row_of-drop ks i k h = row_of-drop_item ks i k (slice_get_within ks i k h) (sym (get_or_from_slice_get ks i k k h))
-
 pub row_of-drop_all : (ks : List Kid) (i : ℕ) → length ks ≤ i → row_of (drop i ks) ≡ end
 row_of-drop_all ks i h = ap row_of (drop_all i ks h) ∙ row_of-nil
 
@@ -78,16 +75,6 @@ row_keeps F G done ks i k j whole so_far h e step =
     let rest = row_of (drop (i + 1) ks) in
     ap (λ r. r +++ G rest) (row_of-push done j) ∙ +++_assoc (row_of done) (kid j.binder (term j.body) end) (G rest) ∙ ap (λ r. row_of done +++ r) (sym step)
     ∙ ap (λ r. row_of done +++ F r) (sym (row_of-drop_item ks i k h e)) ∙ so_far
-
--- The same where the loop pushes a kid whose binder and body are known.
-pub row_keeps_pushed : (F G : Row Var Name → Row Var Name) (done next ks : List Kid) (i : ℕ) (k j : Kid) (b : Option Name) (e : Term) (whole : Row Var Name) →
-    row_of done +++ F (row_of (drop i ks)) ≡ whole → i < length ks → k ≡ get_or ks i k → next ≡ done ++ j ∷ [] → j.binder ≡ b → term j.body ≡ e →
-    F (kid k.binder (term k.body) (row_of (drop (i + 1) ks))) ≡ kid b e (G (row_of (drop (i + 1) ks))) →
-    row_of next +++ G (row_of (drop (i + 1) ks)) ≡ whole
-row_keeps_pushed F G done next ks i k j b e whole so_far h at pushed same_binder same_body step =
-    let rest = G (row_of (drop (i + 1) ks)) in
-    ap (λ d. row_of d +++ rest) pushed
-    ∙ row_keeps F G done ks i k j whole so_far h at (step ∙ ap (λ c. kid c e rest) (sym same_binder) ∙ ap (λ d. kid j.binder d rest) (sym same_body))
 
 pub row_begins : (F : Row Var Name → Row Var Name) (ks : List Kid) → row_of [] +++ F (row_of (drop 0 ks)) ≡ F (row_of ks)
 row_begins F ks = ap (λ r. r +++ F (row_of ks)) row_of-nil

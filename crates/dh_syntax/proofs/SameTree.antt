@@ -373,9 +373,6 @@ mutual
 pub terms_tell : Tells term_eq
 terms_tell = record { itself = term_eq-itself; equal = term_eq-true }
 
-pub rows_tell : Tells row_eq
-rows_tell = record { itself = row_eq-itself; equal = row_eq-true }
-
 -- A test that tells is true exactly where the two are equal.
 pub tells-Decides : {A : Type 0} {same : A → A → Bool} → Tells same → (a b : A) → Decides (same a b) (a ≡ b)
 tells-Decides {same = same} t a b = (t.equal a b, λ p. subst (λ c. same a c ≡ true) p (t.itself a))

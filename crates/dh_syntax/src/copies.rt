@@ -1,3 +1,5 @@
+//! Equal copies of expressions and of their parts.
+
 ghost use Rattle.std.specs.Prelude.{◌≡◌, IfOk};
 
 use crate::expressions::{Alts, Expr, Kids, Labels, Pieces};

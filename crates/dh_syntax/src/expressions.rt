@@ -1,3 +1,5 @@
+//! Expressions: variables, and nodes with their parts.
+
 ghost use Rattle.std.specs.Prelude.{◌≡◌, IfOk};
 
 use crate::copies::{copy, copy_alts, copy_labels, copy_name, copy_pieces};
@@ -137,6 +139,8 @@ impl Op {
     }
 }
 
+// Drops are written by hand here: a derived one puts every arm inline wherever a value may die, and a check of a function
+// where many values may die took minutes.
 impl Drop for Op {
     fn drop(self) {
         match self {

@@ -1,3 +1,5 @@
+//! Why a text, bytes, a typing or a normalising gave no answer.
+
 ghost use Rattle.std.specs.Prelude.{◌≡◌, IfOk};
 
 use crate::copies::copy_path;

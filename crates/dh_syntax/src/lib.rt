@@ -1,4 +1,14 @@
-//! The types that all of the crates share, their faults, and in `specs/` the definitions of the language.
+//! The types that all crates of the command share, and in `specs/` the definitions of the language.
+//!
+//! An expression is an [`Expr`]: a variable with its index, or a node, whose [`Op`] says what it is, with its parts in order,
+//! each under at most one binder. Contracts see it as its plain tree, `term`, of which the definitions speak; labels, pieces of
+//! text and lists are seen as their bytes and their elements. What takes memory is given the allocator, and answers
+//! `AllocError` or the fault `Memory` where it is wanting.
+//!
+//! ```text
+//! let copied = copy(alloc, &e)?;          // equal to `e`
+//! let depth = nest(&copied);              // 0 for a variable, 1 for `[ x ]`
+//! ```
 #![tactic(auto)]
 
 mod copies;

@@ -1,3 +1,5 @@
+//! A list through which a type may hold itself.
+
 ghost use Rattle.std.specs.Prelude.{◌≡◌, [], ◌∷◌, ◌++◌, ◌<◌, length, slice_get, IsTrue, ◌↔◌, OnOk, OnErr, OnSome, MatchOption};
 ghost use Rattle.std.specs.Option.{option_copied};
 

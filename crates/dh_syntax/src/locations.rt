@@ -1,3 +1,5 @@
+//! Locations of imports, and imports and keys with how they are read and the digest that they ask for.
+
 ghost use Rattle.std.specs.Prelude.{◌≡◌, IfOk};
 
 use crate::copies::copy_pieces;
@@ -127,6 +129,8 @@ impl Key {
     }
 }
 
+// Drops are written by hand here: a derived one puts every arm inline wherever a value may die, and a check of a function
+// where many values may die took minutes.
 impl Drop for Url {
     fn drop(self) {
         let Url {

@@ -1,3 +1,5 @@
+//! What became of an import, and why one has no value.
+
 ghost use Rattle.std.specs.Prelude.{◌≡◌, IfOk};
 
 use crate::copies::copy;
@@ -124,6 +126,8 @@ impl Outcome {
     }
 }
 
+// Drops are written by hand here: a derived one puts every arm inline wherever a value may die, and a check of a function
+// where many values may die took minutes.
 impl Drop for Why {
     fn drop(self) {
         match self {

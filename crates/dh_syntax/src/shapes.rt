@@ -1,3 +1,5 @@
+//! How deep an expression nests, and whether each of its nodes has its parts.
+
 ghost use Rattle.std.specs.Prelude.{◌≡◌, ◌↔◌, ◌-◌, ◌^◌, ◌&&◌, IsTrue, length, min, is_none, count_by};
 ghost use Rattle.std.specs.List.{list_all};
 ghost use Rattle.dh_syntax.specs.Expressions.Bridge.{term, row_of};

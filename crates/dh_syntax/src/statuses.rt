@@ -1,3 +1,5 @@
+//! How a run of the command ends.
+
 ghost use Rattle.std.specs.Prelude.{◌≡◌};
 ghost use Rattle.dh_syntax.specs.Command.Statuses.{code_of};
 

@@ -1,3 +1,5 @@
+//! Labels, pieces of text and bytes.
+
 ghost use Rattle.std.specs.Prelude.{◌≡◌, [], length, string_bytes, string_len, IfOk};
 ghost use Rattle.std.specs.Str.{IsUtf8};
 

@@ -1,3 +1,5 @@
+//! Tokens, as a text is read and before it is parsed.
+
 use crate::locations::{Digest, Loc};
 use crate::operators::{BinOp, Builtin};
 use crate::texts::{Label, Piece};

@@ -1,10 +1,10 @@
 -- The binders above a place in an expression.
 use Rattle.std.specs.Prelude.{List, [], ◌∷◌}
 use Rattle.dh_syntax.specs.Expressions.Tree.{Name}
-use Rattle.dh_terms.specs.declared.names.Outer.{Outer}
-use Rattle.dh_terms.specs.declared.names.Outer.TheOpen as level
-use Rattle.dh_terms.specs.declared.names.Outer.TheOpen.{Outer-F}
-use Rattle.dh_terms.specs.declared.names.Outer.TheFolds.{fold-Outer}
+use Rattle.dh_terms.specs.declared.binders.Outer.{Outer}
+use Rattle.dh_terms.specs.declared.binders.Outer.TheOpen as level
+use Rattle.dh_terms.specs.declared.binders.Outer.TheOpen.{Outer-F}
+use Rattle.dh_terms.specs.declared.binders.Outer.TheFolds.{fold-Outer}
 
 abbrev pub outer_step : Outer-F (List Name) → List Name
 outer_step level.Top = []

@@ -1,23 +1,33 @@
 //! Shifting, substitution, free variables, α-normal forms and sameness of expressions.
+//!
+//! Each call is its definition (`dh_syntax/specs/Names`) on every expression, in one pass over it. Indices have 32 bits: a call
+//! that could make a greater one has a condition, and `fits_shift`, `fits_subst` and `fits_alpha` test it. What a call
+//! recurses on is the expression alone, so its depth is that of the expression.
+//!
+//! ```text
+//! if fits_subst(0, &value, &body) {
+//!     let body = subst(alloc, &x, 0, &value, &body)?;     // `body` with `value` for `x`
+//! }
+//! ```
 #![tactic(auto)]
 
-mod alphas;
-mod equals;
-mod frees;
+mod alpha_forms;
+mod binders;
+mod conditions;
+mod equality;
+mod free_variables;
 pub mod laws;
-mod lifts;
-mod names;
-mod rooms;
-mod sames;
-mod shifts;
-mod substs;
+mod sameness;
+mod shifting;
+mod substitution;
+mod weakening;
 
-pub use alphas::alpha;
-pub use frees::free;
-pub use rooms::{fits_alpha, fits_shift, fits_subst};
-pub use sames::same;
-pub use shifts::shift;
-pub use substs::subst;
+pub use alpha_forms::alpha;
+pub use conditions::{fits_alpha, fits_shift, fits_subst};
+pub use free_variables::free;
+pub use sameness::same;
+pub use shifting::shift;
+pub use substitution::subst;
 
 #[cfg(test)]
 mod tests;

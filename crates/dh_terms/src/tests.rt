@@ -1,3 +1,5 @@
+//! Each call on expressions whose results are worked out by hand.
+
 use crate::{alpha, fits_alpha, fits_shift, fits_subst, free, same, shift, subst};
 use dh_syntax::{
     Alt, BinOp, Builtin, Expr, Import, Kid, Kids, Label, Labels, Loc, Many, Mode, Op, Piece,

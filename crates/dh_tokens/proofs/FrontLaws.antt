@@ -115,10 +115,6 @@ sound bs =
     code_form-has IsSound bs (λ f plain. PlainForms.HasFaultWithin-plain f.found f.len plain) (line_comment-has IsSound bs (λ n. tt) last) (block_comment-has IsSound bs (λ n. tt) in_comment tt)
     (double_quoted_opening-has IsSound bs (λ begins'. tt)) (multi_line_opening-has IsSound bs (λ some. tt)) (digest-has IsSound bs tt in_digest)
 
--- the fault of the longest form stands within it
-pub code_form-sound : (bs : List ℕ) (f : Form) → code_form bs ≡ Some f → HasFaultWithin f.found f.len
-code_form-sound bs f e = has-at IsSound (code_form bs) f (sound bs) e
-
 refused-sound : (refused : Bool) → HasFaultWithin (if refused then Faulty 0 else LeftOut) 1
 refused-sound true = omega arith
 refused-sound false = tt
@@ -146,9 +142,6 @@ a_skipped_line-sound bs =
     when-has IsSound (begins "#!" bs) (with_line_end line bs)
     (λ yes'. with_line_end-sound line bs (stretching-has IsSound (λ text. SkippedLine) 2 (stretch line_character 0 (drop 2 bs)) (λ text n. tt) last))
 
-pub skipped_line-sound : (bs : List ℕ) (f : Form) → skipped_line bs ≡ Some f → HasFaultWithin f.found f.len
-skipped_line-sound bs f e = has-at IsSound (skipped_line bs) f (a_skipped_line-sound bs) e
-
 a_text_part-sound : (form' : TextForm) (bs : List ℕ) → IfSome (text_part form' bs) IsSound
 a_text_part-sound form' bs =
     let n = closing_len form' bs in
@@ -156,9 +149,6 @@ a_text_part-sound form' bs =
     let part = stretching (λ text. Is (kinds.TextPiece text)) 0 piece in
     if-has IsSound (ltb 0 n) (form (Is kinds.TextClose) n) (if begins "${" bs then form (Is kinds.InterpolationOpen) 2 else part) (λ some. form-has IsSound (Is kinds.TextClose) n (λ some'. tt))
     (λ none. if-has IsSound (begins "${" bs) (form (Is kinds.InterpolationOpen) 2) part (λ yes'. tt) (λ no'. stretching-has IsSound (λ text. Is (kinds.TextPiece text)) 0 piece (λ text m. tt) last))
-
-pub text_part-sound : (form' : TextForm) (bs : List ℕ) (f : Form) → text_part form' bs ≡ Some f → HasFaultWithin f.found f.len
-text_part-sound form' bs f e = has-at IsSound (text_part form' bs) f (a_text_part-sound form' bs) e
 
 form_or-sound : (f : Option Form) (other : Form) → IfSome f IsSound → IsSound other → IsSound (form_or f other)
 form_or-sound None other h k = k

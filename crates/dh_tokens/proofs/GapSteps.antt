@@ -16,10 +16,6 @@ abbrev pub behind : ℕ → Result ℕ ℕ → Result ℕ ℕ
 behind k (Ok n) = Ok (k + n)
 behind k (Err n) = Err (k + n)
 
-pub behind-zero : (r : Result ℕ ℕ) → behind 0 r ≡ r
-behind-zero (Ok n) = let e : 0 + n ≡ n = omega arith in ap Ok e
-behind-zero (Err n) = let e : 0 + n ≡ n = omega arith in ap Err e
-
 pub behind-behind : (j k : ℕ) (r : Result ℕ ℕ) → behind j (behind k r) ≡ behind (j + k) r
 behind-behind j k (Ok n) = let e : j + (k + n) ≡ j + k + n = omega arith in ap Ok e
 behind-behind j k (Err n) = let e : j + (k + n) ≡ j + k + n = omega arith in ap Err e
@@ -123,26 +119,6 @@ comment-passes inner (suc k) (suc m) (b ∷ bs) some part forward e =
     ap (λ p. by_part p inner (λ i n. comment i n bs)) part
     ∙ ap one_further (comment-clamped inner k m bs m_is)
     ∙ one_further-after_bytes m (comment inner 0 (drop m bs))
-
-pub comment-opens : (inner : ℕ) (bs : List ℕ) → 1 < length bs → comment_part bs ≡ Opens → comment inner 0 bs ≡ after_bytes 2 (comment (suc inner) 0 (drop 2 bs))
-comment-opens inner [] some part = absurd (omega (arith, some))
-comment-opens inner (b ∷ bs) some part =
-    let in_reach : 1 ≡ min 1 (length bs) = omega (arith, some) in
-    ap (λ p. by_part p inner (λ i n. comment i n bs)) part
-    ∙ ap one_further (comment-clamped (suc inner) 1 1 bs in_reach)
-    ∙ one_further-after_bytes 1 (comment (suc inner) 0 (drop 1 bs))
-
-pub comment-closes : (inner : ℕ) (bs : List ℕ) → 1 < length bs → comment_part bs ≡ Closes → comment (suc inner) 0 bs ≡ after_bytes 2 (comment inner 0 (drop 2 bs))
-comment-closes inner [] some part = absurd (omega (arith, some))
-comment-closes inner (b ∷ bs) some part =
-    let in_reach : 1 ≡ min 1 (length bs) = omega (arith, some) in
-    ap (λ p. by_part p (suc inner) (λ i n. comment i n bs)) part
-    ∙ ap one_further (comment-clamped inner 1 1 bs in_reach)
-    ∙ one_further-after_bytes 1 (comment inner 0 (drop 1 bs))
-
-pub comment-closed : (bs : List ℕ) → 0 < length bs → comment_part bs ≡ Closes → comment 0 0 bs ≡ ClosedAfter 2
-comment-closed [] some part = absurd (omega (arith, some))
-comment-closed (b ∷ bs) some part = ap (λ p. by_part p 0 (λ i n. comment i n bs)) part
 
 pub comment-stops : (inner : ℕ) (bs : List ℕ) → 0 < length bs → comment_part bs ≡ Stops → comment inner 0 bs ≡ FaultyAfter 0
 comment-stops inner [] some part = absurd (omega (arith, some))

@@ -3,13 +3,13 @@ use Rattle.std.specs.Prelude.{ℕ, Bool, List, Option, Some, None, if◌then◌e
 use Rattle.std.specs.Borrow.{Bor}
 use Rattle.dh_syntax.specs.Text.Characters.{is_segment_byte, is_query_byte}
 use Rattle.dh_syntax.specs.Text.LexLocations.{Component, Components, path_component, segment}
-use Rattle.dh_tokens.specs.declared.components.Place.{Place}
-use Rattle.dh_tokens.specs.declared.components.Place.TheVariants as places
+use Rattle.dh_tokens.specs.declared.components.ComponentKind.{ComponentKind}
+use Rattle.dh_tokens.specs.declared.components.ComponentKind.TheVariants as kinds
 
 -- what a component is by where it stands
-abbrev pub component_in : Place → List ℕ → Option Component
-component_in places.Path = path_component
-component_in places.Url = segment
+abbrev pub component_in : ComponentKind → List ℕ → Option Component
+component_in kinds.Path = path_component
+component_in kinds.Url = segment
 
 -- a byte of a URL's query, or of its path
 abbrev pub is_url_byte : Bool → ℕ → Bool

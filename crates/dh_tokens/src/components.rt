@@ -9,9 +9,9 @@ use crate::classes::{Class, ascii_text, is_segment_byte, run};
 use dh_syntax::{Comps, Many, Piece};
 use std::alloc::{AllocError, Global};
 
-/// Where components stand.
+/// What components belong to.
 #[derive(Clone, Copy, Debug)]
-pub enum Place {
+pub enum ComponentKind {
     Path,
     Url,
 }
@@ -110,13 +110,13 @@ pub fn url_text(rest: &[u8], in_query: bool) -> &str
 }
 
 /// A component, after its slash, and how many bytes it takes.
-fn component(rest: &[u8], place: Place) -> Option<(&str, usize)>
-    ensures value { component_of result ≡ component_in place rest.now }
+fn component(rest: &[u8], kind: ComponentKind) -> Option<(&str, usize)>
+    ensures value { component_of result ≡ component_in kind rest.now }
     ensures within { IfSome result (λ c. c.1 ≤ length rest.now) }
 {
-    match place {
-        Place::Path => path_component(rest),
-        Place::Url => {
+    match kind {
+        ComponentKind::Path => path_component(rest),
+        ComponentKind::Url => {
             let text = url_text(rest, false);
             Some((text, text.len()))
         }
@@ -124,14 +124,18 @@ fn component(rest: &[u8], place: Place) -> Option<(&str, usize)>
 }
 
 /// A slash and a component, any number of times, and how many bytes they take.
-pub fn components(alloc: Global, rest: &[u8], place: Place) -> Result<(Comps, usize), AllocError>
-    ensures value { IfOk result (λ cs. components_of cs ≡ components (component_in place) 0 rest.now) }
+pub fn components(
+    alloc: Global,
+    rest: &[u8],
+    kind: ComponentKind,
+) -> Result<(Comps, usize), AllocError>
+    ensures value { IfOk result (λ cs. components_of cs ≡ components (component_in kind) 0 rest.now) }
     ensures within { IfOk result (λ cs. cs.1 ≤ length rest.now) }
 {
     let mut texts = Many::new(alloc);
     let mut at = 0;
     'slashes: while byte_at(rest, at) == b'/' {
-        let Some((text, len)) = component(after(rest, at + 1), place) else {
+        let Some((text, len)) = component(after(rest, at + 1), kind) else {
             break;
         };
         texts.push(Piece::new(alloc, text)?)?;

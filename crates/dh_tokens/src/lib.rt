@@ -1,4 +1,12 @@
 //! Text to tokens: at each place the longest form of `dhall.abnf` is read, from left to right.
+//!
+//! `tokens` reads a whole text in one loop without recursion, so that depth costs memory of the heap alone. Each token has its
+//! kind with its value, the bytes that spell it, and whether white space stands before it; an end token is the last. The first
+//! place at which no form fits, a number is too wide or a form is left out of the profile is the fault.
+//!
+//! ```text
+//! let read = tokens(alloc, "x + 1")?;     // `x` at 0, `+` at 2, `1` at 4, the end at 5
+//! ```
 #![tactic(auto)]
 
 mod characters;

@@ -5,7 +5,7 @@ ghost use Rattle.dh_tokens.specs.Forms.{form_of, IsWithin};
 ghost use Rattle.dh_tokens.specs.Paths.{path_in, root_len, root_loc};
 
 use crate::characters::{after, byte_at};
-use crate::components::{Place, components};
+use crate::components::{ComponentKind, components};
 use crate::forms::{Form, Found};
 use dh_syntax::{Comps, Loc, TokenKind};
 use std::alloc::{AllocError, Global};
@@ -64,7 +64,7 @@ pub fn path(alloc: Global, rest: &[u8]) -> Result<Option<Form>, AllocError>
     if before > rest.len() {
         return Ok(None);
     }
-    let (comps, total) = components(alloc, after(rest, before), Place::Path)?;
+    let (comps, total) = components(alloc, after(rest, before), ComponentKind::Path)?;
     if total == 0 {
         return Ok(None);
     }

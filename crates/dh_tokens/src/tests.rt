@@ -1,3 +1,5 @@
+//! Texts and their tokens or faults, worked out by hand.
+
 use crate::LexFault::{Bad, Out, Wide};
 use crate::{LexFault, Tokens, tokens};
 use dh_syntax::TokenKind;

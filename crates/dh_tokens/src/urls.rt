@@ -7,7 +7,7 @@ ghost use Rattle.dh_tokens.specs.Urls.{scheme_len, scheme_loc};
 
 use crate::characters::{after, byte_at, up_to};
 use crate::classes::{Class, ascii_text, run_len};
-use crate::components::{Place, components, url_text};
+use crate::components::{ComponentKind, components, url_text};
 use crate::forms::{Form, Found};
 use dh_syntax::{Comps, Loc, Piece, TokenKind, Url};
 use std::alloc::{AllocError, Global};
@@ -142,7 +142,7 @@ fn url_form(alloc: Global, scheme: Scheme, rest: &[u8], host: usize) -> Result<F
     ensures within { IfOk result (λ f. IsWithin f (scheme_len scheme + length rest.now)) }
 {
     let behind = after(rest, host);
-    let (comps, total) = components(alloc, behind, Place::Url)?;
+    let (comps, total) = components(alloc, behind, ComponentKind::Url)?;
     let (query, query_len) = query(alloc, after(behind, total))?;
     let host_text = Piece::new(alloc, ascii_text(up_to(rest, host)))?;
     let comps = one_or_more(alloc, comps)?;

@@ -5,7 +5,7 @@ use Rattle.std.specs.Io.KnownBytes.{Consumes, Keeps}
 use Rattle.std.specs.declared.alloc.AllocError.{AllocError}
 use Rattle.dh_ports.specs.Counts.{Rose}
 use Rattle.dh_syntax.specs.declared.faults.ParseFault.{ParseFault}
-use Rattle.dh_syntax.specs.Command.Answer.{Written, Answer, encodes, usage, encoded, misused, unread}
+use Rattle.dh_syntax.specs.Command.Answer.{encodes, usage, encoded, misused, unread, Response, CommandAnswer}
 use Rattle.dh_syntax.specs.Expressions.Tree.{Term}
 use Rattle.dh_syntax.specs.Command.Words.{Word, command_of}
 use Rattle.dh_syntax.specs.declared.verbs.Verb.{Verb}
@@ -40,8 +40,8 @@ parses_whole n text bytes o m e p = elim (cases_le (length text) n) [
   | inr h ↦ longer n text o m h (subst (λ t. ParsesTo t o) e p)
 ]
 
-answered : (n : ℕ) (words : List Word) (text bytes : List ℕ) (w : Written) → n ≡ 1048577 → command_of words ≡ Ok verb.Encode → bytes ≡ take n text
-    → Encodes ParsesTo bytes w → Answer ParsesTo words text w
+answered : (n : ℕ) (words : List Word) (text bytes : List ℕ) (w : Response) → n ≡ 1048577 → command_of words ≡ Ok verb.Encode → bytes ≡ take n text
+    → Encodes ParsesTo bytes w → CommandAnswer ParsesTo words text w
 answered n words text bytes w m c e r = encodes r.outcome c (parses_whole n text bytes r.outcome m e r.parses) r.writes
 
 -- the reading of a command
@@ -49,7 +49,7 @@ is_read : (words : List Word) (text : List ℕ) (input : Input) → command_of w
     → IfSome input.before (λ left. text ≡ left) → Consumes input.before input.after (take most_read text) → IsQuiet input → IsRead (command_of words) text input
 is_read words text input c all taken quiet = subst (λ r. IsRead r text input) (sym c) (all, taken, quiet)
 
-made : (n : ℕ) (before after : Option (List ℕ)) (f g : ℕ) (words : List Word) (bytes : List ℕ) (w : Written) → n ≡ 1048577 → command_of words ≡ Ok verb.Encode
+made : (n : ℕ) (before after : Option (List ℕ)) (f g : ℕ) (words : List Word) (bytes : List ℕ) (w : Response) → n ≡ 1048577 → command_of words ≡ Ok verb.Encode
     → Consumes before after bytes → IfSome before (λ left. bytes ≡ take n left) → g ≡ f → Encodes ParsesTo bytes w → Makes ParsesTo words (reading before after f g) w
 made n None after f g words bytes w m c taken all quiet r =
     answers bytes (is_read words bytes (reading None after f g) c tt tt quiet) (encodes r.outcome c r.parses r.writes)

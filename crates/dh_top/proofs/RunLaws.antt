@@ -5,7 +5,7 @@ use Rattle.dh_ports.specs.Counts.{Rose}
 use Rattle.dh_syntax.specs.declared.faults.ParseFault.{ParseFault}
 use Rattle.dh_syntax.specs.declared.statuses.Status.{Status}
 use Rattle.dh_syntax.specs.declared.statuses.Status.TheVariants as status
-use Rattle.dh_syntax.specs.Command.Answer.{Written, usage, encodes, encoded}
+use Rattle.dh_syntax.specs.Command.Answer.{usage, encodes, encoded, Response}
 use Rattle.dh_syntax.specs.Expressions.Tree.{Term}
 use Rattle.dh_syntax.specs.Command.Words.{Word, command_of}
 use Rattle.dh_syntax.specs.declared.verbs.Verb.TheVariants as verb
@@ -28,7 +28,7 @@ same_text words text left input b c r =
     let read : IsRead (Ok verb.Encode) text input = subst (λ c. IsRead c text input) c r in
     subst (λ o. IfSome o (λ l. text ≡ l)) b read.0
 
-fine : (words : List Word) (left : List ℕ) (input : Input) (w : Written) (e : Term) → input.before ≡ Some left → ParsesTo left (Ok e) → (AreMisused words → ⊥)
+fine : (words : List Word) (left : List ℕ) (input : Input) (w : Response) (e : Term) → input.before ≡ Some left → ParsesTo left (Ok e) → (AreMisused words → ⊥)
     → (Rose input.faults_before input.faults_after → ⊥) → Makes ParsesTo words input w → (w.status ≡ status.Ok) ⊎ (w.status ≡ status.Memory)
 fine words left input w e b p m n (answers text r (usage k c u)) = absurd (m (misused_err words k c))
 fine words left input w e b p m n (answers text r (encodes o c q u)) =
@@ -37,7 +37,7 @@ fine words left input w e b p m n (answers text r (encodes o c q u)) =
 fine words left input w e b p m n (cannot_read v c rose u) = absurd (n rose)
 fine words left input w e b p m n (lacks_memory u) = inr (ap (λ w. w.status) u)
 
-fine_whole : (w : Written) (out err : Output) (s : Status) → (w.status ≡ status.Ok) ⊎ (w.status ≡ status.Memory) → (Rose out.faults_before out.faults_after → ⊥)
+fine_whole : (w : Response) (out err : Output) (s : Status) → (w.status ≡ status.Ok) ⊎ (w.status ≡ status.Memory) → (Rose out.faults_before out.faults_after → ⊥)
     → (Rose err.faults_before err.faults_after → ⊥) → Delivers w out err s → (s ≡ status.Ok) ⊎ (s ≡ status.Memory)
 fine_whole w out err s (inl u) p q (whole g h e) = inl (e ∙ u)
 fine_whole w out err s (inr u) p q (whole g h e) = inr (e ∙ u)
@@ -51,7 +51,7 @@ completes words (Some left) after f g out err s r =
     λ e p m works. fine_whole r.written out err s (fine words left (reading (Some left) after f g) r.written e refl p m works.reads r.makes) works.writes works.tells r.delivers
 
 -- a run from what was made and how it was delivered
-pub ran : (words : List Word) (input : Input) (out err : Output) (w v : Written) (s : Status) → Makes ParsesTo words input w → w ≡ v → Delivers v out err s → Runs ParsesTo words input out err s
+pub ran : (words : List Word) (input : Input) (out err : Output) (w v : Response) (s : Status) → Makes ParsesTo words input w → w ≡ v → Delivers v out err s → Runs ParsesTo words input out err s
 ran words input out err w v s m e d = record { written = v; makes = subst (Makes ParsesTo words input) e m; delivers = d }
 
 -- the same, from the bytes of a reply
@@ -60,5 +60,5 @@ pub ran_reply : (words : List Word) (input : Input) (out err : Output) (r : Resu
     → Delivers (record { out = to_out; err = to_err; status = x.status }) out err s → Runs ParsesTo words input out err s
 ran_reply words input out err r x to_out to_err s e m o p d =
     let made : Makes ParsesTo words input (written x) = subst (λ r. IfOk r (λ x. Makes ParsesTo words input (written x))) e m in
-    let with : List ℕ → List ℕ → Written = λ a b. record { out = a; err = b; status = x.status } in
+    let with : List ℕ → List ℕ → Response = λ a b. record { out = a; err = b; status = x.status } in
     ran words input out err (written x) (with to_out to_err) s made (ap (λ a. with a x.err.items) (sym o) ∙ ap (λ b. with to_out b) (sym p)) d

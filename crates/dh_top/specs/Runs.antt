@@ -6,7 +6,7 @@ use Rattle.dh_ports.specs.Counts.{Rose}
 use Rattle.dh_syntax.specs.declared.faults.ParseFault.{ParseFault}
 use Rattle.dh_syntax.specs.declared.statuses.Status.{Status}
 use Rattle.dh_syntax.specs.declared.statuses.Status.TheVariants as status
-use Rattle.dh_syntax.specs.Command.Answer.{Written, Answer, line, unread, without_memory}
+use Rattle.dh_syntax.specs.Command.Answer.{line, unread, without_memory, Response, CommandAnswer}
 use Rattle.dh_syntax.specs.Command.FaultLines.{read_line, write_line}
 use Rattle.dh_syntax.specs.Limits.{most_bytes}
 use Rattle.dh_syntax.specs.Expressions.Tree.{Term}
@@ -56,8 +56,8 @@ IsRead (Ok v) text input = MatchBool (reads v) (IsTaken text input) (IsLeft inpu
 IsRead (Err k) text input = IsLeft input
 
 -- What a run has to write: the answer to its words and its input, or one of the two faults that come before an answer.
-pub data Makes (Parses : List ℕ → Result Term ParseFault → Type 0) (words : List Word) (input : Input) (w : Written) : Type 0 where
-  answers : (text : List ℕ) → IsRead (command_of words) text input → Answer Parses words text w → Makes Parses words input w
+pub data Makes (Parses : List ℕ → Result Term ParseFault → Type 0) (words : List Word) (input : Input) (w : Response) : Type 0 where
+  answers : (text : List ℕ) → IsRead (command_of words) text input → CommandAnswer Parses words text w → Makes Parses words input w
   cannot_read : (v : Verb) → command_of words ≡ Ok v → Rose input.faults_before input.faults_after → w ≡ unread → Makes Parses words input w
   lacks_memory : w ≡ without_memory → Makes Parses words input w
 
@@ -80,14 +80,14 @@ Tries o bytes = Gains o bytes ⊎ Stops o bytes
 
 -- How it is written: whole, with its status; or a write to standard output failed, and the line `write failed` was
 -- tried on standard error; or a write to standard error failed.
-pub data Delivers (w : Written) (out err : Output) (s : Status) : Type 0 where
+pub data Delivers (w : Response) (out err : Output) (s : Status) : Type 0 where
   whole : Gains out w.out → Gains err w.err → s ≡ w.status → Delivers w out err s
   out_failed : Stops out w.out → Tries err (line write_line) → s ≡ status.Write → Delivers w out err s
   err_failed : Gains out w.out → Stops err w.err → s ≡ status.Write → Delivers w out err s
 
 -- a run of the command
 pub record Runs (Parses : List ℕ → Result Term ParseFault → Type 0) (words : List Word) (input : Input) (out err : Output) (s : Status) : Type 0 where
-  pub written : Written
+  pub written : Response
   pub makes : Makes Parses words input written
   pub delivers : Delivers written out err s
 

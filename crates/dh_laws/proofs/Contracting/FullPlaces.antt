@@ -7,7 +7,7 @@ use Rattle.dh_syntax.specs.declared.operators.BinOp.{BinOp}
 use Rattle.dh_syntax.specs.declared.operators.BinOp.TheVariants as bins
 use Rattle.dh_syntax.specs.declared.operators.Builtin.{Builtin}
 use Rattle.dh_syntax.specs.declared.operators.Builtin.TheVariants as builtins
-use Rattle.dh_syntax.specs.Normalising.Needs.{Place, argument, operator_needs, call_needs, argument_needs, all_parts, place, most_needs, part_or_self, set}
+use Rattle.dh_syntax.specs.Normalising.Needs.{argument, operator_needs, call_needs, argument_needs, all_parts, place, most_needs, part_or_self, set, Path}
 use Rattle.dh_syntax.specs.Expressions.Rows.{row_length}
 use Rattle.dh_syntax.specs.Expressions.Tree.{Tree, Row, Leaf, Node, end, kid}
 use Rattle.dh_syntax.specs.Expressions.Views.{as_call}
@@ -91,23 +91,23 @@ module _ {A B : Type 0} where
           at_app (suc k) h = let n = app_some k r [] h in not-empty n.0 n.1
       by (inr a) = let n = node-parts op r k [] a h in (let q = n.1 in absurd cc)
 
-  pub set-no_leaf : (k : ℕ) (p : Place) (d e : Tree A B) (a : A) → place k e ≡ Some p → set p d e ≡ Leaf a → ⊥
+  pub set-no_leaf : (k : ℕ) (p : Path) (d e : Tree A B) (a : A) → place k e ≡ Some p → set p d e ≡ Leaf a → ⊥
   set-no_leaf k p d (Leaf b) a h q = absurd cc
   set-no_leaf k [] d (Node op r) a h q = root-place k (Node op r) h
   set-no_leaf k (i ∷ p) d (Node op r) a h q = absurd cc
 
-  pub most-set : (k : ℕ) (p : Place) (d e : Tree A B) → place k e ≡ Some p → most_needs (set p d e) ≡ most_needs e
+  pub most-set : (k : ℕ) (p : Path) (d e : Tree A B) → place k e ≡ Some p → most_needs (set p d e) ≡ most_needs e
   most-set k [] d e h = absurd (root-place k e h)
   most-set k (i ∷ p) d e h = change_most i (λ x. set p d x) e
 
 module _ {S A B C D : Type 0} (m : Graft S A B C D) (s : S) where
-  pub open-set : (k : ℕ) (p : Place) (d e : Tree A B) → place k e ≡ Some p → IsOpen m s (set p d e)
+  pub open-set : (k : ℕ) (p : Path) (d e : Tree A B) → place k e ≡ Some p → IsOpen m s (set p d e)
   open-set k p d (Leaf a) h = absurd cc
   open-set k [] d (Node op r) h = absurd (root-place k (Node op r) h)
   open-set k (i ∷ p) d (Node op r) h = tt
 
   -- the way to a place that a row looks at is open
-  pub place-walks : (k : ℕ) (p : Place) (c : Tree A B) → place k c ≡ Some p → Ready m s k c → Walks m s p c
+  pub place-walks : (k : ℕ) (p : Path) (c : Tree A B) → place k c ≡ Some p → Ready m s k c → Walks m s p c
   place-walks k p (Leaf a) h y = absurd cc
   place-walks k p (Node op r) h y = by (is_app op)
     where

@@ -6,7 +6,7 @@ use Rattle.dh_syntax.specs.declared.expressions.Op.TheVariants as ops
 use Rattle.dh_syntax.specs.declared.operators.Builtin.{Builtin}
 use Rattle.dh_syntax.specs.declared.operators.Builtin.TheVariants as builtins
 use Rattle.dh_laws.specs.Grafts.{Graft, grafted_binder, entered, grafted, grafted_row, IsOpen, Shown, ShownAt, Ready}
-use Rattle.dh_syntax.specs.Normalising.Needs.{Place, part, call_needs, argument_needs, all_parts, place, most_needs, part_at, change_part, part_or_self, change_part_of, argument, at, set}
+use Rattle.dh_syntax.specs.Normalising.Needs.{part, call_needs, argument_needs, all_parts, place, most_needs, part_at, change_part, part_or_self, change_part_of, argument, at, set, Path}
 use Rattle.dh_syntax.specs.Expressions.Rows.{row_length}
 use Rattle.dh_syntax.specs.Expressions.Tree.{Tree, Row, Leaf, Node, end, kid}
 use Rattle.dh_syntax.specs.Expressions.Numbers.{le}
@@ -85,7 +85,7 @@ module _ {S A B C D : Type 0} (m : Graft S A B C D) (s : S) where
   -- ---- the expression at a place
 
   -- the way to a place leads through nodes that are open
-  abbrev pub Walks : Place → Tree A B → Type 0
+  abbrev pub Walks : Path → Tree A B → Type 0
   Walks [] e = Unit {0}
   Walks (i ∷ p) e = IsOpen m s e × Walks p (part_or_self i e)
 
@@ -107,7 +107,7 @@ module _ {S A B C D : Type 0} (m : Graft S A B C D) (s : S) where
   part_or_self-grafted i (Leaf a) o = leaf-part i (m.leaf s a) o.0 o.1
   part_or_self-grafted i (Node op r) o = ap (λ o. unwrap_or o (f (Node op r))) (part_at-grafted i r) ∙ self-grafted (part_at i r) (Node op r)
 
-  pub at-grafted : (p : Place) (e : Tree A B) → Walks p e → at p (f e) ≡ f (at p e)
+  pub at-grafted : (p : Path) (e : Tree A B) → Walks p e → at p (f e) ≡ f (at p e)
   at-grafted [] e w = refl
   at-grafted (i ∷ p) e w = ap (at p) (part_or_self-grafted i e w.0) ∙ at-grafted p (part_or_self i e) w.1
 
@@ -123,7 +123,7 @@ module _ {S A B C D : Type 0} (m : Graft S A B C D) (s : S) where
   leaf-set : (i : ℕ) (g : Tree C D → Tree C D) (e : Tree C D) (c : C) → e ≡ Leaf c → change_part_of i g e ≡ e
   leaf-set i g e c p = ap (change_part_of i g) p ∙ sym p
 
-  pub set-grafted : (p : Place) (d e : Tree A B) → Walks p e → set p (f d) (f e) ≡ f (set p d e)
+  pub set-grafted : (p : Path) (d e : Tree A B) → Walks p e → set p (f d) (f e) ≡ f (set p d e)
   set-grafted [] d e w = refl
   set-grafted (i ∷ p) d (Leaf a) w = leaf-set i (λ k. set p (f d) k) (m.leaf s a) w.0.0 w.0.1
   set-grafted (i ∷ p) d (Node op r) w =

@@ -5,7 +5,7 @@ use Rattle.dh_syntax.specs.declared.expressions.Op.{Op}
 use Rattle.dh_syntax.specs.declared.expressions.Op.TheVariants as ops
 use Rattle.dh_syntax.specs.declared.operators.Builtin.{Builtin}
 use Rattle.dh_syntax.specs.declared.operators.Builtin.TheVariants as builtins
-use Rattle.dh_syntax.specs.Normalising.Needs.{Place, part, argument, call_needs, argument_needs, all_parts, node_needs, place, most_needs, change_part, change_part_of, set}
+use Rattle.dh_syntax.specs.Normalising.Needs.{part, argument, call_needs, argument_needs, all_parts, node_needs, place, most_needs, change_part, change_part_of, set, Path}
 use Rattle.dh_syntax.specs.Expressions.Numbers.{le}
 use Rattle.dh_syntax.specs.Expressions.Rows.{row_length}
 use Rattle.dh_syntax.specs.Expressions.Tree.{Tree, Row, Leaf, Node, end, kid}
@@ -41,7 +41,7 @@ module _ {A B : Type 0} where
   spine-less (suc m) (suc n) (Leaf a) h s = absurd s
 
   -- the arguments that a row looks at are there
-  pub call_place : (b : Builtin) (args : List (Tree A B)) (k : ℕ) (p : Place) → slice_get (call_needs b args) k ≡ Some p
+  pub call_place : (b : Builtin) (args : List (Tree A B)) (k : ℕ) (p : Path) → slice_get (call_needs b args) k ≡ Some p
       → (j : ℕ) × (argument j ≡ p) × (le (suc j) (length args) ≡ true)
   call_place builtins.NaturalIsZero (n ∷ []) zero p h = (0, some-equal _ _ h, refl)
   call_place builtins.NaturalIsZero (n ∷ []) (suc k) p h = absurd cc
@@ -151,7 +151,7 @@ module _ {A B : Type 0} where
   same-needs None (Some q) h = absurd h
 
   -- the place of an application after its function is an argument that is there
-  app-place : (o : Option (Builtin × List (Tree A B))) (e : Tree A B) → as_call e ≡ o → (k : ℕ) (p : Place) → slice_get (argument_needs o) k ≡ Some p
+  app-place : (o : Option (Builtin × List (Tree A B))) (e : Tree A B) → as_call e ≡ o → (k : ℕ) (p : Path) → slice_get (argument_needs o) k ≡ Some p
       → (j : ℕ) × (argument j ≡ p) × Spine (suc j) e
   app-place (Some (b, args)) e h k p q =
       let c = call_place b args k p q in
@@ -178,7 +178,7 @@ module _ {A B : Type 0} where
   change_most i g (Leaf a) = refl
   change_most i g (Node op r) = ap (λ n. suc (suc (suc n))) (row_length-change i g r)
 
-  pub app_some : (k : ℕ) (r : Row A B) (p : Place) → place (suc k) (Node ops.App r) ≡ Some p → (j : ℕ) × (argument j ≡ p) × Spine (suc j) (Node ops.App r)
+  pub app_some : (k : ℕ) (r : Row A B) (p : Path) → place (suc k) (Node ops.App r) ≡ Some p → (j : ℕ) × (argument j ≡ p) × Spine (suc j) (Node ops.App r)
   app_some k r p h = app-place (as_call (Node ops.App r)) (Node ops.App r) refl k p h
 
   app-needs-set : (j : ℕ) (d : Tree A B) (r : Row A B) → Spine (suc j) (Node ops.App r)

@@ -5,7 +5,7 @@ use Rattle.dh_syntax.specs.declared.expressions.Op.{Op}
 use Rattle.dh_syntax.specs.declared.expressions.Op.TheVariants as ops
 use Rattle.dh_syntax.specs.declared.operators.BinOp.{BinOp}
 use Rattle.dh_syntax.specs.declared.operators.BinOp.TheVariants as bins
-use Rattle.dh_syntax.specs.Normalising.Needs.{Place, part, argument, operator_needs, all_parts, place, part_at, change_part, part_or_self, at, set}
+use Rattle.dh_syntax.specs.Normalising.Needs.{part, argument, operator_needs, all_parts, place, part_at, change_part, part_or_self, at, set, Path}
 use Rattle.dh_syntax.specs.Expressions.Numbers.{le}
 use Rattle.dh_syntax.specs.Expressions.Tree.{Tree, Row, Leaf, Node, end, kid}
 use Rattle.dh_laws.specs.Grafts.{Graft, Shown, ShownRow, ShownAt, Ready, looks}
@@ -23,22 +23,22 @@ le-cases (suc i) (suc k) h = elim (le-cases i k h) [ inl p ↦ inl p | inr p ↦
 
 -- ---- places of nodes that are no applications are parts
 
-one-part : (n q k : ℕ) (p : Place) → slice_get (part n ∷ []) k ≡ Some p → (q : ℕ) × (part q ≡ p)
+one-part : (n q k : ℕ) (p : Path) → slice_get (part n ∷ []) k ≡ Some p → (q : ℕ) × (part q ≡ p)
 one-part n q zero p h = (n, some-equal _ _ h)
 one-part n q (suc k) p h = absurd cc
 
-two-parts : (n n' k : ℕ) (p : Place) → slice_get (part n ∷ part n' ∷ []) k ≡ Some p → (q : ℕ) × (part q ≡ p)
+two-parts : (n n' k : ℕ) (p : Path) → slice_get (part n ∷ part n' ∷ []) k ≡ Some p → (q : ℕ) × (part q ≡ p)
 two-parts n n' zero p h = (n, some-equal _ _ h)
 two-parts n n' (suc zero) p h = (n', some-equal _ _ h)
 two-parts n n' (suc (suc k)) p h = absurd cc
 
-three-parts : (k : ℕ) (p : Place) → slice_get (part 0 ∷ part 1 ∷ part 2 ∷ []) k ≡ Some p → (q : ℕ) × (part q ≡ p)
+three-parts : (k : ℕ) (p : Path) → slice_get (part 0 ∷ part 1 ∷ part 2 ∷ []) k ≡ Some p → (q : ℕ) × (part q ≡ p)
 three-parts zero p h = (0, some-equal _ _ h)
 three-parts (suc zero) p h = (1, some-equal _ _ h)
 three-parts (suc (suc zero)) p h = (2, some-equal _ _ h)
 three-parts (suc (suc (suc k))) p h = absurd cc
 
-operator-parts : (o : BinOp) (k : ℕ) (p : Place) → slice_get (operator_needs o) k ≡ Some p → (q : ℕ) × (part q ≡ p)
+operator-parts : (o : BinOp) (k : ℕ) (p : Path) → slice_get (operator_needs o) k ≡ Some p → (q : ℕ) × (part q ≡ p)
 operator-parts bins.TextAppend k p h = absurd cc
 operator-parts bins.Fallback k p h = absurd cc
 operator-parts bins.Equivalent k p h = absurd cc
@@ -46,12 +46,12 @@ operator-parts bins.Complete k p h = absurd cc
 operator-parts o k p h = two-parts 0 1 k p h
 
 module _ {A B : Type 0} where
-  many-parts : (i k : ℕ) (r : Row A B) (p : Place) → slice_get (all_parts i r) k ≡ Some p → (q : ℕ) × (part q ≡ p)
+  many-parts : (i k : ℕ) (r : Row A B) (p : Path) → slice_get (all_parts i r) k ≡ Some p → (q : ℕ) × (part q ≡ p)
   many-parts i k end p h = absurd cc
   many-parts i zero (kid b e r) p h = (i, some-equal _ _ h)
   many-parts i (suc k) (kid b e r) p h = many-parts (suc i) k r p h
 
-  pub node-parts : (op : Op) (r : Row A B) (k : ℕ) (p : Place) → (op ≡ ops.App → ⊥) → place k (Node op r) ≡ Some p → (q : ℕ) × (part q ≡ p)
+  pub node-parts : (op : Op) (r : Row A B) (k : ℕ) (p : Path) → (op ≡ ops.App → ⊥) → place k (Node op r) ≡ Some p → (q : ℕ) × (part q ≡ p)
   node-parts ops.App r k p n h = absurd (n refl)
   node-parts ops.If r k p n h = three-parts k p h
   node-parts (ops.Bin o) r k p n h = operator-parts o k p h
@@ -118,7 +118,7 @@ module _ {S A B C D : Type 0} (m : Graft S A B C D) (s : S) where
   -- ---- a node that is no application
 
   node-at : (op : Op) (r : Row A B) (k q i : ℕ) (d : Tree A B) → (op ≡ ops.App → ⊥) → place k (Node op r) ≡ Some (part q) → Ready m s k (Node op r) → Shown m s d
-      → (le (suc i) k ≡ true) ⊎ (i ≡ k) → (o : Option Place) → place i (Node op r) ≡ o → ShownAt m s o (Node op (change_part q (λ x. d) r))
+      → (le (suc i) k ≡ true) ⊎ (i ≡ k) → (o : Option Path) → place i (Node op r) ≡ o → ShownAt m s o (Node op (change_part q (λ x. d) r))
   node-at op r k q i d a h y z l None w = tt
   node-at op r k q i d a h y z (inl l) (Some v) w =
       let n = node-parts op r i v a w in
@@ -129,7 +129,7 @@ module _ {S A B C D : Type 0} (m : Graft S A B C D) (s : S) where
       let t : part q ≡ v = some-equal _ _ (sym h ∙ ap (λ j. place j (Node op r)) (sym l) ∙ w) in
       along (λ x. Shown m s (at x (Node op (change_part q (λ x. d) r)))) t (now-shown op r k q d a h y z (part_at q r) refl)
 
-  node-ready : (op : Op) (r : Row A B) (k : ℕ) (p : Place) (d : Tree A B) → (op ≡ ops.App → ⊥) → place k (Node op r) ≡ Some p → Ready m s k (Node op r) → Shown m s d
+  node-ready : (op : Op) (r : Row A B) (k : ℕ) (p : Path) (d : Tree A B) → (op ≡ ops.App → ⊥) → place k (Node op r) ≡ Some p → Ready m s k (Node op r) → Shown m s d
       → Ready m s (suc k) (set p d (Node op r))
   node-ready op r k p d a h y z =
       let n = node-parts op r k p a h in
@@ -149,7 +149,7 @@ module _ {S A B C D : Type 0} (m : Graft S A B C D) (s : S) where
   app-first (suc i) d r h l = absurd cc
 
   app-at : (k j i : ℕ) (d : Tree A B) (r : Row A B) → place (suc k) (Node ops.App r) ≡ Some (argument j) → Spine (suc j) (Node ops.App r) → Ready m s (suc k) (Node ops.App r) → Shown m s d
-      → (le (suc i) (suc k) ≡ true) ⊎ (i ≡ suc k) → (o : Option Place) → place i (Node ops.App r) ≡ o → ShownAt m s o (set (argument j) d (Node ops.App r))
+      → (le (suc i) (suc k) ≡ true) ⊎ (i ≡ suc k) → (o : Option Path) → place i (Node ops.App r) ≡ o → ShownAt m s o (set (argument j) d (Node ops.App r))
   app-at k j i d r h p y z l None w = tt
   app-at k j zero d r h p y z l (Some v) w =
       along (λ x. Shown m s (at x (set (argument j) d (Node ops.App r)))) (some-equal _ _ w) (function-set-shown m s j d (Node ops.App r) p z (y 0 refl))
@@ -162,7 +162,7 @@ module _ {S A B C D : Type 0} (m : Graft S A B C D) (s : S) where
       let t : argument j ≡ v = some-equal _ _ (sym h ∙ ap (λ n. place n (Node ops.App r)) (sym l) ∙ w) in
       along (λ x. Shown m s (at x (set (argument j) d (Node ops.App r)))) t (arg-now-shown m s j d (Node ops.App r) p z)
 
-  app-ready : (r : Row A B) (k : ℕ) (p : Place) (d : Tree A B) → place k (Node ops.App r) ≡ Some p → Ready m s k (Node ops.App r) → Shown m s d
+  app-ready : (r : Row A B) (k : ℕ) (p : Path) (d : Tree A B) → place k (Node ops.App r) ≡ Some p → Ready m s k (Node ops.App r) → Shown m s d
       → Ready m s (suc k) (set p d (Node ops.App r))
   app-ready r zero p d h y z = along (λ x. Ready m s 1 (set x d (Node ops.App r))) (some-equal _ _ h) (λ i l. app-first i d r z l)
   app-ready r (suc k) p d h y z =
@@ -175,7 +175,7 @@ module _ {S A B C D : Type 0} (m : Graft S A B C D) (s : S) where
   is_app ops.App = inl refl
   is_app op = inr (λ h. absurd cc)
 
-  pub ready-set : (k : ℕ) (p : Place) (d c : Tree A B) → place k c ≡ Some p → Ready m s k c → Shown m s d → Ready m s (suc k) (set p d c)
+  pub ready-set : (k : ℕ) (p : Path) (d c : Tree A B) → place k c ≡ Some p → Ready m s k c → Shown m s d → Ready m s (suc k) (set p d c)
   ready-set k p d (Leaf a) h y z = absurd cc
   ready-set k p d (Node ops.App r) h y z = app-ready r k p d h y z
   ready-set k p d (Node op r) h y z = by (is_app op)

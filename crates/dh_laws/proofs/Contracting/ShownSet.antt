@@ -3,7 +3,7 @@ use Rattle.std.specs.Prelude.{◌≡◌, ◌⊎◌, ℕ, zero, suc, [], ◌∷�
 use Rattle.std.proofs.Common.{inl, inr, sym, subst as along}
 use Rattle.dh_syntax.specs.declared.expressions.Op.{Op}
 use Rattle.dh_syntax.specs.declared.expressions.Op.TheVariants as ops
-use Rattle.dh_syntax.specs.Normalising.Needs.{Place, argument, part_at, change_part, part_or_self, at, set}
+use Rattle.dh_syntax.specs.Normalising.Needs.{argument, part_at, change_part, part_or_self, at, set, Path}
 use Rattle.dh_syntax.specs.Expressions.Tree.{Tree, Row, Leaf, Node, end, kid}
 use Rattle.dh_laws.specs.Grafts.{Graft, looks, Shown, ShownRow}
 use Rattle.dh_laws.proofs.Contracting.PlacesSet.{Spine}
@@ -18,7 +18,7 @@ module _ {S A B C D : Type 0} (m : Graft S A B C D) (s : S) where
   shown-change (suc n) (suc i) g (kid None e r) h k = (k.0, shown-change n i g r h k.1)
   shown-change (suc n) (suc i) g (kid (Some x) e r) h k = tt
 
-  pub shown-set : (q : Place) (d f : Tree A B) → Shown m s d → Shown m s f → Shown m s (set q d f)
+  pub shown-set : (q : Path) (d f : Tree A B) → Shown m s d → Shown m s f → Shown m s (set q d f)
   shown-set [] d f h k = h
   shown-set (i ∷ q) d (Leaf a) h k = k
   shown-set (i ∷ q) d (Node op r) h k = shown-change (looks op) i (λ e. set q d e) r (λ e y. shown-set q d e h y) k

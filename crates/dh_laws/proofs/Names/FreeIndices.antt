@@ -127,7 +127,7 @@ mutual
   indices_row-free l ys end h = tt
   indices_row-free l ys (kid b e r) h = (indices-free l (with_binder b ys) e h.0, indices_row-free l ys r h.1)
 
-count-length : (x : Name) (ys : List Name) → count x ys ≤ length ys
+pub count-length : (x : Name) (ys : List Name) → count x ys ≤ length ys
 count-length x [] = omega arith
 count-length x (y ∷ ys) = at (bytes_eq y x) (count-length x ys)
   where

@@ -2,8 +2,8 @@
 use Rattle.std.specs.Prelude.{◌≡◌, ◌≤◌, ◌<◌, ℕ, zero, suc, ◌+◌, Bool, true, false, List, [], ◌∷◌, Option, Some, None, refl}
 use Rattle.std.proofs.Common.{ap, ◌∙◌, arith}
 use Rattle.dh_syntax.specs.Normalising.Contraction.{Contraction, Nothing, Gives, TooWide, IfSame}
-use Rattle.dh_syntax.specs.Normalising.Heads.{Lang, Mode, Head, Whole, Found, Wide, Deep, Over, and_then, counted}
-use Rattle.dh_syntax.specs.Normalising.Needs.{Place}
+use Rattle.dh_syntax.specs.Normalising.Heads.{Lang, Head, Whole, Found, Wide, Deep, Over, and_then, counted, Extent}
+use Rattle.dh_syntax.specs.Normalising.Needs.{Path}
 use Rattle.dh_laws.specs.KeptRuns.{Out, steps, Task, Run, Look, Row, Right, Same, Complete, Parts, Frame, Need, Keep, Done, AtLeft, AtRight, AtPart, State, Go, Back, Stop, step, resumed}
 use Rattle.dh_laws.specs.KeptRuns as frames
 use Rattle.dh_laws.proofs.Normalising.KeepingMachine.{Next, machine, machine-few, head-few}
@@ -42,11 +42,11 @@ module _ {S : Type 0} (K : Lang S) (Store : Type 0) (kept : Store → S → Opti
   frame-reach f fs units (Deep left) next m k = (1, refl)
   frame-reach f fs units Over next m k = (1, refl)
 
-  module _ (hh : ℕ) (run : (mode : Mode) (units : ℕ) (st : Store) (e : S) (fs : Frames) → Reach (Go hh (Run mode e) units st fs) (Back (machine K Store kept keep hh mode units st e) fs)) where
-    abbrev below : Mode → ℕ → Store → S → Answers
+  module _ (hh : ℕ) (run : (mode : Extent) (units : ℕ) (st : Store) (e : S) (fs : Frames) → Reach (Go hh (Run mode e) units st fs) (Back (machine K Store kept keep hh mode units st e) fs)) where
+    abbrev below : Extent → ℕ → Store → S → Answers
     below = machine K Store kept keep hh
 
-    few : (mode : Mode) (units : ℕ) (st : Store) (e : S) → AtMost units (below mode units st e)
+    few : (mode : Extent) (units : ℕ) (st : Store) (e : S) → AtMost units (below mode units st e)
     few mode units st e = machine-few K Store kept keep hh mode units st e
 
     abbrev AgainReach : ℕ → Next K Store kept keep → Type 0
@@ -80,7 +80,7 @@ module _ {S : Type 0} (K : Lang S) (Store : Type 0) (kept : Store → S → Opti
         reach-on _ _ (same-reach again bound left' z'.1 e f fs (K.same z.0 z'.0) a (omega arith)))))
 
     placed-reach : (m s units : ℕ) (st : Store) (e : S) (fs : Frames) (next : S × Store → ℕ → Answers)
-        → ((z : S × Store) (left : ℕ) → left ≤ units → Reach (Go hh (Row m (suc s) z.0) left z.1 fs) (Back (next z left) fs)) → (o : Option Place)
+        → ((z : S × Store) (left : ℕ) → left ≤ units → Reach (Go hh (Row m (suc s) z.0) left z.1 fs) (Back (next z left) fs)) → (o : Option Path)
         → Reach (frames.placing K Store kept keep o hh m s e units st fs) (Back (keeping.placed K Store kept keep below o units st e next) fs)
     placed-reach m s units st e fs next k None = (0, refl)
     placed-reach m s units st e fs next k (Some p) =
@@ -115,12 +115,12 @@ module _ {S : Type 0} (K : Lang S) (Store : Type 0) (kept : Store → S → Opti
         reach-on _ _ (reach-trans _ _ _ (run Whole units st c (AtPart hh e ds es ∷ fs))
         (frame-reach (AtPart hh e ds es) fs units (below Whole units st c) _ (few Whole units st c) λ z left w. parts-reach e (z.0 ∷ ds) es left z.1 fs))
 
-    complete-reach : (mode : Mode) (units : ℕ) (st : Store) (e : S) (fs : Frames) → Reach (Go hh (Complete mode e) units st fs) (Back (keeping.complete K Store kept keep below mode units st e) fs)
+    complete-reach : (mode : Extent) (units : ℕ) (st : Store) (e : S) (fs : Frames) → Reach (Go hh (Complete mode e) units st fs) (Back (keeping.complete K Store kept keep below mode units st e) fs)
     complete-reach Head units st e fs = (1, refl)
     complete-reach Whole zero st e fs = (1, refl)
     complete-reach Whole (suc left) st e fs = reach-on _ _ (parts-reach e [] (K.kids e) left st fs)
 
-  pub run-reach : (hh : ℕ) (mode : Mode) (units : ℕ) (st : Store) (e : S) (fs : Frames) → Reach (Go hh (Run mode e) units st fs) (Back (machine K Store kept keep hh mode units st e) fs)
+  pub run-reach : (hh : ℕ) (mode : Extent) (units : ℕ) (st : Store) (e : S) (fs : Frames) → Reach (Go hh (Run mode e) units st fs) (Back (machine K Store kept keep hh mode units st e) fs)
   run-reach zero mode units st e fs = (1, refl)
   run-reach (suc hh) mode units st e fs =
       reach-on _ _ (reach-trans _ _ _ (head-reach hh (run-reach hh) units units st e (Done hh mode ∷ fs) (omega arith))
@@ -129,5 +129,5 @@ module _ {S : Type 0} (K : Lang S) (Store : Type 0) (kept : Store → S → Opti
       λ z left w. complete-reach hh (run-reach hh) mode left z.1 z.0 fs))
 
   -- It stops, with the answer of the machine without frames.
-  pub stops : (hh : ℕ) (mode : Mode) (units : ℕ) (st : Store) (e : S) → Reach (Go hh (Run mode e) units st []) (Stop (machine K Store kept keep hh mode units st e))
+  pub stops : (hh : ℕ) (mode : Extent) (units : ℕ) (st : Store) (e : S) → Reach (Go hh (Run mode e) units st []) (Stop (machine K Store kept keep hh mode units st e))
   stops hh mode units st e = reach-trans _ _ _ (run-reach hh mode units st e []) (1, refl)

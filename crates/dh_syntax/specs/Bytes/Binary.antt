@@ -18,24 +18,24 @@ use Rattle.dh_syntax.specs.Expressions.Tree.{Row, Leaf, Node, end, kid, Name, Va
 
 -- What an expression is written as: alone, at the head of an application, and as the body of a let. An application
 -- goes on with the items of its head, and a let with those of its body.
-pub record Form : Type 0 where
+pub record Encoding : Type 0 where
   pub alone : List ℕ
   pub applied : List (List ℕ)
   pub bound : List (List ℕ)
 
 -- an expression that is neither an application nor a let
-abbrev pub single : List ℕ → Form
+abbrev pub single : List ℕ → Encoding
 single item = record { alone = item; applied = item ∷ []; bound = item ∷ [] }
 
 -- the application of an expression to one more argument
-abbrev pub application : Form → Form → Form
+abbrev pub application : Encoding → Encoding → Encoding
 application f a =
     let items = f.applied ++ a.alone ∷ [] in
     let whole = array (natural 0 ∷ items) in
     record { alone = whole; applied = items; bound = whole ∷ [] }
 
 -- a let with these three items before its body
-abbrev pub binding : List ℕ → List ℕ → List ℕ → Form → Form
+abbrev pub binding : List ℕ → List ℕ → List ℕ → Encoding → Encoding
 binding x type value body =
     let items = x ∷ type ∷ value ∷ body.bound in
     let whole = array (natural 25 ∷ items) in
@@ -43,10 +43,10 @@ binding x type value body =
 
 -- a part of a node
 pub data Part : Type 0 where
-  plain : Form → Part
-  under : Name → Form → Part
+  plain : Encoding → Part
+  under : Name → Encoding → Part
 
-abbrev pub part : Option Name → Form → Part
+abbrev pub part : Option Name → Encoding → Part
 part None f = plain f
 part (Some x) f = under x f
 
@@ -58,12 +58,12 @@ abbrev pub items : List Part → List (List ℕ)
 items ps = map part_item ps
 
 -- a function or a function type, whose binder `_` is left out
-abbrev pub function : ℕ → List ℕ → Name → List ℕ → Form
+abbrev pub function : ℕ → List ℕ → Name → List ℕ → Encoding
 function code type x body =
     single (if bytes_eq x (codes "_") then array (natural code ∷ type ∷ body ∷ []) else array (natural code ∷ text x ∷ type ∷ body ∷ []))
 
 -- the empty list: a type that is `List` applied to one argument is written by that argument
-abbrev pub empty_list : Form → List ℕ
+abbrev pub empty_list : Encoding → List ℕ
 empty_list t = elim t.applied [
   | (l ∷ x ∷ []) ↦ if bytes_eq l (text (codes "List")) then array (natural 4 ∷ x ∷ []) else array (natural 28 ∷ t.alone ∷ [])
   | _ ↦ array (natural 28 ∷ t.alone ∷ [])
@@ -128,7 +128,7 @@ abbrev pub variable_item : Var → List ℕ
 variable_item v = if bytes_eq v.name (codes "_") then natural v.index else array (text v.name ∷ natural v.index ∷ [])
 
 -- A node by its parts. A node that does not have its parts is written as null.
-abbrev pub node : Op → List Part → Form
+abbrev pub node : Op → List Part → Encoding
 node (ops.Builtin b) ps = single (text (builtin_name b))
 node (ops.Bool b) ps = single (truth b)
 node (ops.Nat n) ps = single (array (natural 15 ∷ natural n ∷ []))
@@ -159,7 +159,7 @@ node (ops.With path) (plain e ∷ plain v ∷ []) = single (array (natural 29 �
 node op ps = single null
 
 abbrev mutual
-  pub form : Term → Form
+  pub form : Term → Encoding
   form (Leaf v) = single (variable_item v)
   form (Node op r) = node op (forms r)
 

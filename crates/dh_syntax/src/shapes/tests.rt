@@ -1,3 +1,5 @@
+//! Nodes that have their parts and nodes that do not, and how deep they nest.
+
 use super::*;
 use crate::expressions::Alts;
 use crate::lists::Many;

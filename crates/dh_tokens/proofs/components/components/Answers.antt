@@ -13,5 +13,5 @@ slashes-preserved c =
     let slash = sym c.byte_at.ensures ∙ c.slashes-test.true in
     record {
       within = omega (arith, byte_within bs at (omega (arith, slash)), c.in-Some.ensures.within, ap length c.after.ensures, length-drop (at + 1) bs);
-      so_far = components-loop (component_in c.args.place) bs here c.in-Some.text.now c.in_ok-new.field-0 c.slashes.texts c.push.new.self at len c.after.ensures slash c.in-Some.ensures.value c.in-Some.ensures.within c.in_ok-new.ensures c.in_ok-push.ensures.ok c.slashes.invariant.so_far;
+      so_far = components-loop (component_in c.args.kind) bs here c.in-Some.text.now c.in_ok-new.field-0 c.slashes.texts c.push.new.self at len c.after.ensures slash c.in-Some.ensures.value c.in-Some.ensures.within c.in_ok-new.ensures c.in_ok-push.ensures.ok c.slashes.invariant.so_far;
     }

@@ -7,7 +7,7 @@ use Rattle.dh_tokens.proofs.components.components.Given as goal
 abbrev pub invariant-slashes : goal.invariant-slashes
 invariant-slashes l = record {
   within : l.at ≤ length l.rest;
-  so_far : components (component_in l.place) 0 l.rest ≡ before l.texts l.at (components (component_in l.place) 0 (drop l.at l.rest));
+  so_far : components (component_in l.kind) 0 l.rest ≡ before l.texts l.at (components (component_in l.kind) 0 (drop l.at l.rest));
 }
 
 abbrev pub decreases-slashes : goal.decreases-slashes

@@ -1,7 +1,0 @@
-use Rattle.std.proofs.Common.{◌≡◌, drop}
-use Rattle.dh_syntax.specs.Expressions.Numbers.{bytes_eq}
-use Rattle.dh_syntax.specs.Expressions.SameTree.{list_eq}
-use Rattle.dh_terms.proofs.equals.are_same_labels.Given as goal
-
-abbrev pub invariant-loop-i : goal.invariant-loop-i
-invariant-loop-i l = list_eq bytes_eq (drop l.i l.xs) (drop l.i l.ys) ≡ list_eq bytes_eq l.xs l.ys
