@@ -1,3 +1,4 @@
 pub mod Contracting
+pub mod KeyOrder
 pub mod Names
 pub mod Normalising

@@ -2,8 +2,10 @@
 #![tactic(auto)]
 
 mod alpha;
+mod builtins;
 mod indices;
 mod kept_heads;
+mod keys;
 mod labels;
 mod nameless;
 mod nameless_runs;
@@ -16,11 +18,13 @@ pub use alpha::{
     alpha_equations, alpha_nesting, alpha_of_shift_down, alpha_of_shift_up, alpha_of_subst,
     alpha_once, free_after_alpha, same_decides, same_is_an_equivalence,
 };
+pub use builtins::builtin_names_tell;
 pub use indices::{
     indices_and_binders, indices_below_more, indices_of_alpha, indices_of_put, indices_of_shift_up,
     indices_of_subst, indices_put_under,
 };
 pub use kept_heads::{heads_found_again, keeping_answers, table_of_sub};
+pub use keys::key_order_is_total;
 pub use labels::label_order_is_total;
 pub use nameless::{
     alpha_reads_bare, core_of_put, core_of_shift_up, core_of_subst, forget_of_sub, reading_back,

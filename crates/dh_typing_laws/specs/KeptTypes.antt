@@ -11,7 +11,8 @@ use Rattle.dh_syntax.specs.Normalising.Heads.{Lang, Answer, Found, Wide, Deep, O
 use Rattle.dh_syntax.specs.Normalising.NamelessRuns.{cores, nameless_eq}
 use Rattle.dh_syntax.specs.Normalising.Normal.{Normalises, IsWideLicensed, IsDeepLicensed}
 use Rattle.dh_syntax.specs.Typing.BuiltinTypes.{type_of}
-use Rattle.dh_syntax.specs.Typing.Inference.{Inference, Gives, Fails, Deeper, FromNormal, FromPart, Aside, Instead, Judgment, Has, Ill, IsWide, IsDeep, IsOver, IsOverAside, IsShallow, judged, ComesTo, IsRefused, MeetsLimit, MeetsNormal, purse_aside}
+use Rattle.dh_syntax.specs.Typing.Inference.{Inference, Gives, Fails, Deeper, FromNormal, FromPart, Aside, Instead, Judgment, Has, Ill, IsWide, IsDeep, IsOver, IsOverAside, IsShallow, judged, ComesTo, IsRefused, MeetsLimit, MeetsNormal}
+use Rattle.dh_syntax.specs.Limits.{purse_aside}
 use Rattle.dh_syntax.specs.Typing.NamedTyping.{Infers, IsIll, IsTypeFault}
 use Rattle.dh_syntax.specs.Typing.NamelessTyping.{down, type_in, core_scopes}
 use Rattle.dh_syntax.specs.Typing.Scopes.{Scopes, Context, enter}

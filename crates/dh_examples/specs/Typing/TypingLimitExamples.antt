@@ -3,7 +3,8 @@ use Rattle.std.specs.Prelude.{◌≡◌, refl, ℕ, zero, suc, ◌-◌, ◌^◌,
 use Rattle.dh_syntax.specs.declared.operators.BinOp.TheVariants as bins
 use Rattle.dh_syntax.specs.Names.Alpha.{alpha}
 use Rattle.dh_syntax.specs.Expressions.Forms.{natural, operator, app, let_in, some, record_literal}
-use Rattle.dh_syntax.specs.Typing.Inference.{Gives, FromNormal, Aside, Has, Ill, IsWide, IsDeep, IsOver, IsOverAside, IsShallow, judged, purse_aside}
+use Rattle.dh_syntax.specs.Typing.Inference.{Gives, FromNormal, Aside, Has, Ill, IsWide, IsDeep, IsOver, IsOverAside, IsShallow, judged}
+use Rattle.dh_syntax.specs.Limits.{purse_aside}
 use Rattle.dh_syntax.specs.Normalising.Named.{names}
 use Rattle.dh_syntax.specs.Typing.NamedTyping.{infer, plain_infer}
 use Rattle.dh_syntax.specs.Expressions.Nesting.{nesting}

@@ -5,7 +5,7 @@ use Rattle.dh_syntax.specs.Normalising.Contraction.{on}
 use Rattle.dh_syntax.specs.Normalising.ContractNumbers.{natural_literal, sum, product}
 use Rattle.dh_syntax.specs.Expressions.Numbers.{le}
 use Rattle.dh_laws.specs.Grafts.{Graft, grafted, Shown}
-use Rattle.dh_syntax.specs.Text.Numerals.{natural_fits}
+use Rattle.dh_syntax.specs.Limits.{natural_fits}
 use Rattle.dh_syntax.specs.Expressions.Tree.{Tree}
 use Rattle.dh_syntax.specs.Expressions.Views.{as_natural}
 use Rattle.dh_laws.proofs.Contracting.GraftedCases.{Commutes, or-carried, when-carried, from-carried, within-carried, on-same-carried}

@@ -7,6 +7,7 @@
 use Rattle.std.specs.Prelude.{◌≡◌, ◌⊎◌, ℕ, List, [], ◌∷◌, Option, Some, None, ⊤}
 use Rattle.dh_syntax.specs.declared.faults.NormFault.{NormFault}
 use Rattle.dh_syntax.specs.declared.faults.NormFault.TheVariants as fault
+use Rattle.dh_syntax.specs.Limits.{purse_aside}
 use Rattle.dh_syntax.specs.Normalising.Heads.{Lang, Whole, Answer, Found, Wide, Deep, Over, run}
 use Rattle.dh_syntax.specs.Normalising.Normal.{endless, HasNormalForm, plain_answer, IsDeepLicensed, IsWideLicensed}
 use Rattle.dh_syntax.specs.Typing.TypeRules.{Rule}
@@ -93,10 +94,6 @@ module _ {T : Type 0} where
   judged normal purse units (FromPart k m next) = after_part k (judged normal purse units m) (λ t left. judged normal purse left (next t))
   judged normal purse units (Aside m next) = after_aside (judged normal purse purse m) (λ t. judged normal purse units (next t))
   judged normal purse units (Instead m rule) = instead (judged normal purse units m) rule
-
--- the units of a typing aside; where they do not suffice, the typing may end there
-abbrev pub purse_aside : ℕ
-purse_aside = 16_777_216
 
 module _ {T : Type 0} (L : Lang T) where
   -- ---- without an end by height or nesting

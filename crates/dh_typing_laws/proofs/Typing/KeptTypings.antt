@@ -4,14 +4,14 @@ use Rattle.std.proofs.Common.{ap, sym, subst as along}
 use Rattle.std.proofs.Math.Path.{fun_ext}
 use Rattle.dh_syntax.specs.Expressions.Nesting.{nesting}
 use Rattle.dh_syntax.specs.Expressions.Tree.{Name, Var, Term}
-use Rattle.dh_syntax.specs.Limits.{most_height}
+use Rattle.dh_syntax.specs.Limits.{most_height, purse_aside}
 use Rattle.dh_syntax.specs.Names.Nameless.{Ref, Core, core_below, to_core, sub, first}
 use Rattle.dh_syntax.specs.Normalising.Heads.{Answer}
 use Rattle.dh_syntax.specs.Normalising.Named.{names}
 use Rattle.dh_syntax.specs.Normalising.NamelessRuns.{cores}
 use Rattle.dh_syntax.specs.Normalising.Normal.{IsWideLicensed, IsDeepLicensed}
 use Rattle.dh_syntax.specs.Typing.BuiltinTypes.{type_of}
-use Rattle.dh_syntax.specs.Typing.Inference.{Inference, Judgment, Has, Ill, IsWide, IsDeep, IsOver, IsOverAside, IsShallow, judged, purse_aside}
+use Rattle.dh_syntax.specs.Typing.Inference.{Inference, Judgment, Has, Ill, IsWide, IsDeep, IsOver, IsOverAside, IsShallow, judged}
 use Rattle.dh_syntax.specs.Typing.NamelessTyping.{core_scopes}
 use Rattle.dh_syntax.specs.Typing.Scopes.{Context}
 use Rattle.dh_syntax.specs.Typing.Typing.{typing}

@@ -4,7 +4,8 @@ use Rattle.std.proofs.Common.{inl, inr, ap, ◌∙◌, subst as along}
 use Rattle.dh_syntax.specs.declared.faults.TypeFault.TheVariants as fault
 use Rattle.dh_syntax.specs.Typing.BuiltinTypes.{type_of}
 use Rattle.dh_syntax.specs.Normalising.Heads.{Answer}
-use Rattle.dh_syntax.specs.Typing.Inference.{Judgment, Has, Ill, IsWide, IsDeep, IsOver, IsOverAside, IsShallow, judged, MeetsNormal, purse_aside}
+use Rattle.dh_syntax.specs.Typing.Inference.{Judgment, Has, Ill, IsWide, IsDeep, IsOver, IsOverAside, IsShallow, judged, MeetsNormal}
+use Rattle.dh_syntax.specs.Limits.{purse_aside}
 use Rattle.dh_syntax.specs.Normalising.Named.{names}
 use Rattle.dh_syntax.specs.Typing.NamedTyping as named
 use Rattle.dh_syntax.specs.Typing.NamedTyping.{Infers, IsIll, IsTypeFault}

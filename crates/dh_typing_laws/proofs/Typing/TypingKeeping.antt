@@ -3,7 +3,8 @@ use Rattle.std.specs.Prelude.{◌≡◌, ℕ, suc, List, Option, option_map}
 use Rattle.std.proofs.Common.{ap, sym, ◌∙◌, subst as along}
 use Rattle.dh_syntax.specs.Typing.BuiltinTypes.{type_of}
 use Rattle.dh_syntax.specs.Normalising.Heads.{Whole, Answer, Found, Wide, Deep, Over, run}
-use Rattle.dh_syntax.specs.Typing.Inference.{judged, purse_aside}
+use Rattle.dh_syntax.specs.Typing.Inference.{judged}
+use Rattle.dh_syntax.specs.Limits.{purse_aside}
 use Rattle.dh_syntax.specs.Normalising.Named.{names}
 use Rattle.dh_syntax.specs.Names.Nameless.{Ref, Core, core_below, to_core}
 use Rattle.dh_syntax.specs.Normalising.NamelessRuns.{cores}

@@ -3,10 +3,10 @@
 use Rattle.std.specs.Prelude.{◌≡◌, ℕ, suc, false, nat_lt, IsTrue, List, option_map, codes, refl}
 use Rattle.std.proofs.Common.{ap, sym, ◌∙◌, inl, inr, subst as along}
 use Rattle.dh_syntax.specs.Normalising.Heads.{Whole, run}
-use Rattle.dh_syntax.specs.Typing.Inference.{Has, Inference, IsOver, ComesTo, IsRefused, MeetsNormal, IsSpentAside, purse_aside, judged_within}
+use Rattle.dh_syntax.specs.Typing.Inference.{Has, Inference, IsOver, ComesTo, IsRefused, MeetsNormal, IsSpentAside, judged_within}
 use Rattle.dh_syntax.specs.Names.Alpha.{same}
 use Rattle.dh_syntax.specs.Typing.BuiltinTypes.{type_of}
-use Rattle.dh_syntax.specs.Limits.{most_height, most_nesting}
+use Rattle.dh_syntax.specs.Limits.{most_height, most_nesting, purse_aside}
 use Rattle.dh_syntax.specs.Normalising.Named.{binders, names}
 use Rattle.dh_syntax.specs.Typing.NamedTyping as named
 use Rattle.dh_syntax.specs.Names.Nameless.{Ref, going_nameless, core_below, to_core, ren, Core}
