@@ -1,5 +1,5 @@
 -- No row looks at more places than `most`; and what is headed at all of its places is shown.
-use Rattle.std.specs.Prelude.{◌≡◌, ◌⊎◌, ℕ, zero, suc, List, [], ◌∷◌, Option, Some, None, slice_get, refl}
+use Rattle.std.specs.Prelude.{◌≡◌, ◌⊎◌, ℕ, zero, suc, List, [], ◌∷◌, Some, None, slice_get, refl}
 use Rattle.std.proofs.Common.{inl, inr, ap, sym, ◌∙◌, subst as along}
 use Rattle.dh_syntax.specs.declared.expressions.Op.{Op}
 use Rattle.dh_syntax.specs.declared.expressions.Op.TheVariants as ops
@@ -7,10 +7,8 @@ use Rattle.dh_syntax.specs.declared.operators.BinOp.{BinOp}
 use Rattle.dh_syntax.specs.declared.operators.BinOp.TheVariants as bins
 use Rattle.dh_syntax.specs.declared.operators.Builtin.{Builtin}
 use Rattle.dh_syntax.specs.declared.operators.Builtin.TheVariants as builtins
-use Rattle.dh_syntax.specs.Normalising.Needs.{argument, operator_needs, call_needs, argument_needs, all_parts, place, most_needs, part_or_self, set, Path}
-use Rattle.dh_syntax.specs.Expressions.Rows.{row_length}
+use Rattle.dh_syntax.specs.Normalising.Needs.{argument, operator_needs, call_needs, place, most_needs, part_or_self, set, Path}
 use Rattle.dh_syntax.specs.Expressions.Tree.{Tree, Row, Leaf, Node, end, kid}
-use Rattle.dh_syntax.specs.Expressions.Views.{as_call}
 use Rattle.dh_laws.specs.Grafts.{Graft, IsOpen, Shown, ShownRow, Ready}
 use Rattle.dh_laws.proofs.Contracting.GraftedPlaces.{Walks, app-shown, shown-walks}
 use Rattle.dh_laws.proofs.Contracting.PlacesSet.{app_some, change_most}
@@ -56,26 +54,6 @@ module _ {A B : Type 0} where
   call-full builtins.TextReplace (n ∷ r ∷ t ∷ []) k = refl
   call-full b args k = refl
 
-  argument-full : (o : Option (Builtin × List (Tree A B))) (k : ℕ) → slice_get (argument_needs o) (suc (suc k)) ≡ None
-  argument-full (Some p) k = call-full p.0 p.1 k
-  argument-full None k = refl
-
-  parts-full : (i : ℕ) (r : Row A B) → slice_get (all_parts i r) (suc (suc (suc (row_length r)))) ≡ None
-  parts-full i r = more i r 3
-    where
-      more : (i : ℕ) (r : Row A B) (n : ℕ) → slice_get (all_parts i r) (suc (suc (suc (row_length r)))) ≡ None
-      more i end n = refl
-      more i (kid b e r) n = more (suc i) r n
-
-  pub full-place : (e : Tree A B) → place (most_needs e) e ≡ None
-  full-place (Leaf a) = refl
-  full-place (Node ops.App r) = argument-full (as_call (Node ops.App r)) (row_length r)
-  full-place (Node (ops.Bin o) r) = operator-full o (row_length r)
-  full-place (Node (ops.Text ps) r) = parts-full 0 r
-  full-place (Node (ops.Project []) r) = refl
-  full-place (Node (ops.Project (x ∷ xs)) r) = refl
-  full-place (Node op r) = refl
-
   -- no place is the root
   root-place : (k : ℕ) (e : Tree A B) → place k e ≡ Some [] → ⊥
   root-place k (Leaf a) h = absurd cc
@@ -90,11 +68,6 @@ module _ {A B : Type 0} where
           at_app zero h = absurd cc
           at_app (suc k) h = let n = app_some k r [] h in not-empty n.0 n.1
       by (inr a) = let n = node-parts op r k [] a h in (let q = n.1 in absurd cc)
-
-  pub set-no_leaf : (k : ℕ) (p : Path) (d e : Tree A B) (a : A) → place k e ≡ Some p → set p d e ≡ Leaf a → ⊥
-  set-no_leaf k p d (Leaf b) a h q = absurd cc
-  set-no_leaf k [] d (Node op r) a h q = root-place k (Node op r) h
-  set-no_leaf k (i ∷ p) d (Node op r) a h q = absurd cc
 
   pub most-set : (k : ℕ) (p : Path) (d e : Tree A B) → place k e ≡ Some p → most_needs (set p d e) ≡ most_needs e
   most-set k [] d e h = absurd (root-place k e h)

@@ -13,9 +13,6 @@ Commutes f c d = c ≡ carried f d
 module _ {S T : Type 0} (f : S → T) where
   -- Each takes the parts of the second row, and proofs for them.
 
-  pub gives-carried : (e' : T) (e : S) → e' ≡ f e → Commutes f (Gives e') (Gives e)
-  gives-carried e' e p = ap Gives p
-
   pub or-carried : (c' : Contraction T) (c : Contraction S) (d' : Contraction T) (d : Contraction S)
       → Commutes f c' c → Commutes f d' d → Commutes f (c' or d') (c or d)
   or-carried c' Nothing d' d p q = ap (λ x. x or d') p ∙ q

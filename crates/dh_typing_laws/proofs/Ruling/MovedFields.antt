@@ -2,7 +2,7 @@
 use Rattle.std.specs.Prelude.{◌≡◌, Bool, true, false, if◌then◌else◌, List, [], ◌∷◌, Option, Some, None, option_map, refl}
 use Rattle.std.proofs.Common.{ap, ◌∙◌}
 use Rattle.dh_syntax.specs.Expressions.Forms.{Fields}
-use Rattle.dh_syntax.specs.Expressions.Labels.{has_others, has_label, field_at, prepend_field, fields_at, fields_among, add_field, all_fields}
+use Rattle.dh_syntax.specs.Expressions.Labels.{field_at, prepend_field, fields_at, add_field, all_fields}
 use Rattle.dh_syntax.specs.Names.Moves.{Move, moved}
 use Rattle.dh_syntax.specs.Expressions.Numbers.{bytes_eq}
 use Rattle.dh_syntax.specs.Expressions.Order.{before}
@@ -21,11 +21,6 @@ module _ {S A B C D : Type 0} (m : Move S A B C D) (s : S) where
   abbrev all : Fields A B → Fields C D
   all fs = moved_fields m s fs
 
-  pub has_others-moved : (fs : Fields A B) → has_others (all fs) ≡ has_others fs
-  has_others-moved [] = refl
-  has_others-moved (d ∷ []) = refl
-  has_others-moved (d ∷ e ∷ fs) = refl
-
   pub field_at-moved : (x : Name) (fs : Fields A B) → field_at x (all fs) ≡ option_map f (field_at x fs)
   field_at-moved x [] = refl
   field_at-moved x ((y, e) ∷ fs) = if-then_else (option_map f) (bytes_eq x y) (Some e) (field_at x fs) _ _ refl (field_at-moved x fs)
@@ -43,12 +38,6 @@ module _ {S A B C D : Type 0} (m : Move S A B C D) (s : S) where
       ap (λ o. prepend_field x o (fields_at xs (all fs))) (field_at-moved x fs)
       ∙ ap (prepend_field x (option_map f (field_at x fs))) (fields_at-moved xs fs)
       ∙ prepend_field-moved x (field_at x fs) (fields_at xs fs)
-
-  pub fields_among-moved : (xs : List Name) (fs : Fields A B) → fields_among xs (all fs) ≡ all (fields_among xs fs)
-  fields_among-moved xs [] = refl
-  fields_among-moved xs ((y, e) ∷ fs) =
-      if-then_else all (has_label xs y) ((y, e) ∷ fields_among xs fs) (fields_among xs fs) _ _
-      (ap (λ gs. (y, f e) ∷ gs) (fields_among-moved xs fs)) (fields_among-moved xs fs)
 
   module _ (join : Tree A B → Tree A B → Tree A B) (join' : Tree C D → Tree C D → Tree C D) (h : (d e : Tree A B) → join' (f d) (f e) ≡ f (join d e)) where
     pub add_field-moved : (fs : Fields A B) (x : Name) (e : Tree A B) → add_field join' (all fs) x (f e) ≡ all (add_field join fs x e)

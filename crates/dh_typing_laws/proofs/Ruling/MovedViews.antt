@@ -1,10 +1,9 @@
 -- Forms and views of moved expressions: what is moved has the same form, with moved parts.
-use Rattle.std.specs.Prelude.{◌≡◌, ℕ, List, [], ◌∷◌, Option, Some, None, option_map, refl}
+use Rattle.std.specs.Prelude.{◌≡◌, List, [], ◌∷◌, Option, Some, None, option_map, refl}
 use Rattle.std.proofs.Common.{ap, ◌∙◌}
 use Rattle.dh_syntax.specs.declared.expressions.Op.TheVariants as ops
 use Rattle.dh_syntax.specs.declared.operators.BinOp.TheVariants as bins
 use Rattle.dh_syntax.specs.declared.operators.Builtin.{Builtin}
-use Rattle.dh_syntax.specs.declared.operators.Builtin.TheVariants as builtins
 use Rattle.dh_syntax.specs.Expressions.Forms as form
 use Rattle.dh_syntax.specs.Expressions.Forms.{Fields, TextParts, plain_row, labels_of, values_of}
 use Rattle.dh_syntax.specs.Names.Moves.{Move, moved, moved_row}
@@ -30,12 +29,6 @@ module _ {S A B C D : Type 0} (m : Move S A B C D) (s : S) where
   abbrev pub moved_two : Tree A B × Tree A B → Tree C D × Tree C D
   moved_two p = (moved m s p.0, moved m s p.1)
 
-  abbrev pub moved_three : Tree A B × Tree A B × Tree A B → Tree C D × Tree C D × Tree C D
-  moved_three p = (moved m s p.0, moved m s p.1, moved m s p.2)
-
-  abbrev pub moved_texts : TextParts A B → TextParts C D
-  moved_texts p = (p.0, moved_list p.1)
-
   abbrev pub moved_call : Builtin × List (Tree A B) → Builtin × List (Tree C D)
   moved_call p = (p.0, moved_list p.1)
 
@@ -56,21 +49,8 @@ module _ {S A B C D : Type 0} (m : Move S A B C D) (s : S) where
 
   -- ---- forms
 
-  pub list-moved : (es : List (Tree A B)) → form.list (moved_list es) ≡ moved m s (form.list es)
-  list-moved es = let p = plain_row-moved es in cc
-
-  pub text-moved : (ps : List (List ℕ)) (es : List (Tree A B)) → form.text ps (moved_list es) ≡ moved m s (form.text ps es)
-  text-moved ps es = let p = plain_row-moved es in cc
-
-  pub record_literal-moved : (fs : Fields A B) → form.record_literal (moved_fields fs) ≡ moved m s (form.record_literal fs)
-  record_literal-moved fs = let p = labels_of-moved fs in let q = values_of-moved fs in cc
-
   pub record_type-moved : (fs : Fields A B) → form.record_type (moved_fields fs) ≡ moved m s (form.record_type fs)
   record_type-moved fs = let p = labels_of-moved fs in let q = values_of-moved fs in cc
-
-  pub list_of-moved : (t : Tree A B) (es : List (Tree A B)) → form.list_of (moved m s t) (moved_list es) ≡ moved m s (form.list_of t es)
-  list_of-moved t [] = refl
-  list_of-moved t (e ∷ es) = list-moved (e ∷ es)
 
   -- ---- views of parts
 
@@ -93,15 +73,6 @@ module _ {S A B C D : Type 0} (m : Move S A B C D) (s : S) where
   first_two-moved (kid None e (kid None f r)) = refl
   first_two-moved (kid None e (kid (Some x) f r)) = refl
 
-  pub first_three-moved : (r : Row A B) → views.first_three (moved_row m s r) ≡ option_map moved_three (views.first_three r)
-  first_three-moved end = refl
-  first_three-moved (kid (Some x) e r) = refl
-  first_three-moved (kid None e end) = refl
-  first_three-moved (kid None e (kid (Some x) f r)) = refl
-  first_three-moved (kid None e (kid None f end)) = refl
-  first_three-moved (kid None e (kid None f (kid None g r))) = refl
-  first_three-moved (kid None e (kid None f (kid (Some x) g r))) = refl
-
   fields-moved : (xs : List Name) (r : Row A B) → views.fields xs (moved_row m s r) ≡ option_map moved_fields (views.fields xs r)
   fields-moved [] end = refl
   fields-moved [] (kid b e r) = refl
@@ -113,65 +84,7 @@ module _ {S A B C D : Type 0} (m : Move S A B C D) (s : S) where
 
   -- ---- literals
 
-  pub is_true-moved : (e : Tree A B) → views.is_true (moved m s e) ≡ views.is_true e
-  is_true-moved (Node (ops.Bool b) r) = refl
-  is_true-moved (Node op r) = refl
-  is_true-moved (Leaf a) = refl
-
-  pub is_false-moved : (e : Tree A B) → views.is_false (moved m s e) ≡ views.is_false e
-  is_false-moved (Node (ops.Bool b) r) = refl
-  is_false-moved (Node op r) = refl
-  is_false-moved (Leaf a) = refl
-
-  pub as_natural-moved : (e : Tree A B) → views.as_natural (moved m s e) ≡ views.as_natural e
-  as_natural-moved (Node (ops.Nat n) r) = refl
-  as_natural-moved (Node op r) = refl
-  as_natural-moved (Leaf a) = refl
-
-  pub is_literal-moved : (n : ℕ) (e : Tree A B) → views.is_literal n (moved m s e) ≡ views.is_literal n e
-  is_literal-moved n (Node (ops.Nat k) r) = refl
-  is_literal-moved n (Node op r) = refl
-  is_literal-moved n (Leaf a) = refl
-
-  pub as_integer-moved : (e : Tree A B) → views.as_integer (moved m s e) ≡ views.as_integer e
-  as_integer-moved (Node (ops.Int z) r) = refl
-  as_integer-moved (Node op r) = refl
-  as_integer-moved (Leaf a) = refl
-
-  pub as_text-moved : (e : Tree A B) → views.as_text (moved m s e) ≡ option_map moved_texts (views.as_text e)
-  as_text-moved (Node (ops.Text ps) r) =
-      ap (option_map (λ es. (ps, es))) (bodies-moved r)
-      ∙ option_map-twice (λ es. (ps, es)) moved_list moved_texts (λ es. (ps, es)) (λ es. refl) (views.bodies r)
-  as_text-moved (Node op r) = refl
-  as_text-moved (Leaf a) = refl
-
-  pub as_plain_text-moved : (e : Tree A B) → views.as_plain_text (moved m s e) ≡ views.as_plain_text e
-  as_plain_text-moved (Node (ops.Text (p ∷ [])) r) = refl
-  as_plain_text-moved (Node op r) = refl
-  as_plain_text-moved (Leaf a) = refl
-
   -- ---- lists and optional values
-
-  pub as_list-moved : (e : Tree A B) → views.as_list (moved m s e) ≡ option_map moved_list (views.as_list e)
-  as_list-moved (Node ops.EmptyList r) = refl
-  as_list-moved (Node ops.List r) = bodies-moved r
-  as_list-moved (Node op r) = refl
-  as_list-moved (Leaf a) = refl
-
-  pub is_empty_list-moved : (e : Tree A B) → views.is_empty_list (moved m s e) ≡ views.is_empty_list e
-  is_empty_list-moved (Node ops.EmptyList r) = refl
-  is_empty_list-moved (Node op r) = refl
-  is_empty_list-moved (Leaf a) = refl
-
-  pub is_none-moved : (e : Tree A B) → views.is_none (moved m s e) ≡ views.is_none e
-  is_none-moved (Node (ops.Builtin builtins.None) r) = refl
-  is_none-moved (Node op r) = refl
-  is_none-moved (Leaf a) = refl
-
-  pub as_some-moved : (e : Tree A B) → views.as_some (moved m s e) ≡ option_map (moved m s) (views.as_some e)
-  as_some-moved (Node ops.Some r) = first_part-moved r
-  as_some-moved (Node op r) = refl
-  as_some-moved (Leaf a) = refl
 
   -- ---- records and unions
 

@@ -127,9 +127,6 @@ module _ {S A B C D : Type 0} (m : Move S A B C D) (s : S) where
       let join : Tree A B → Tree A B → Tree A B = λ d e. e in
       ap record_type (add_field-moved m s join (λ d e. e) (λ d e. refl) fs x u) ∙ record_type-moved m s (add_field join fs x u)
 
-  prepend_universe-same : (c : Option Builtin) (o' o : Option (List Builtin)) → o' ≡ o → records.prepend_universe c o' ≡ records.prepend_universe c o
-  prepend_universe-same c o' o p = ap (records.prepend_universe c) p
-
   universes-moved : (ts : List (Tree A B)) → records.universes (list ts) ≡ records.universes ts
   universes-moved [] = refl
   universes-moved (t ∷ ts) =

@@ -54,7 +54,7 @@ module _ (deep' : Core → Type 0) (deep : Term → Type 0) (deeper : (zs : List
 
   module _ (more : ℕ) (kept : Context Ref Name → Core → Kept Core)
       (valid : (depth : ℕ) (c : Context Ref Name) (v : Core) → IsKept cores (typing core_scopes (suc (plus depth more)) c v) (kept c v)) where
-    -- KEPT TYPES: where d stands for e, its values put in
+    -- Kept types, where d stands for e, its values put in
     pub infer_with_kept : (depth : ℕ) (c : Context Var Name) (e : Term) (d : Coded Name) → Sortless d → meaning d ≡ core_below (names_of c) e → (units : ℕ)
         → MayAnswerBy c units e
         (judged machine purse_aside units

@@ -48,9 +48,9 @@ module _ (Store : Type 0) (kept : Store → Core → Option Core) (keep : Store 
   found_embedded (Deep left) = Deep left
   found_embedded Over = Over
 
-  -- the engine as the normaliser of typing, over any store that is sound
-  abbrev pub engine : ℕ → Coded Name → Answer (Coded Name)
-  engine units d = found_embedded (machine cores Store kept keep hh Whole units st (meaning d))
+  -- the machine as the normaliser of typing, over any store that is sound
+  abbrev pub keeping : ℕ → Coded Name → Answer (Coded Name)
+  keeping units d = found_embedded (machine cores Store kept keep hh Whole units st (meaning d))
 
   lag-of : (units : ℕ) (e : Core) (a : Answer (Core × Store)) → Lag hh (Finds cores Store kept keep) (λ h u. endless_run cores h Whole u e) units a
       → NormalLag cores (IsWideLicensed cores nesting) (IsHigh hh) embed units e (found_embedded a)
@@ -60,17 +60,17 @@ module _ (Store : Type 0) (kept : Store → Core → Option Core) (keep : Store 
   lag-of units e (Deep left) l = deep-contract {T = Core × Store} cores (Finds cores Store kept keep) hh units left e l
   lag-of units e Over l = spent-contract {T = Core × Store} cores (Finds cores Store kept keep) hh units e l
 
-  pub engine-lags : (s : Unit {0}) (units : ℕ) (d : Coded Name) (e : Core) → StandsFor s d e → NormalLag cores (IsWideLicensed cores nesting) (IsHigh hh) embed units e (engine units d)
-  engine-lags s units d e p =
-      along (λ z. NormalLag cores (IsWideLicensed cores nesting) (IsHigh hh) embed units z (engine units d)) p.0
+  pub keeping-lags : (s : Unit {0}) (units : ℕ) (d : Coded Name) (e : Core) → StandsFor s d e → NormalLag cores (IsWideLicensed cores nesting) (IsHigh hh) embed units e (keeping units d)
+  keeping-lags s units d e p =
+      along (λ z. NormalLag cores (IsWideLicensed cores nesting) (IsHigh hh) embed units z (keeping units d)) p.0
       (lag-of units (meaning d) (machine cores Store kept keep hh Whole units st (meaning d)) (machine-lag cores Store kept keep cores_law kept-keep hh Whole units st (meaning d) sound))
 
-  -- TYPING WITH KEPT TYPES OVER KEPT HEADS, in the words of `NamedTyping`
+  -- typing with kept types over kept heads, in the words of `NamedTyping`
   module _ (more : ℕ) (types : Context Ref Name → Core → Kept Core)
       (valid : (depth : ℕ) (c : Context Ref Name) (v : Core) → IsKept cores (typing core_scopes (suc (plus depth more)) c v) (types c v)) where
-    pub infer_over_engine : (depth : ℕ) (c : Context Var Name) (e : Term) (d : Coded Name) → Sortless d → meaning d ≡ core_below (names_of c) e → (units : ℕ)
-        → MayAnswerBy (IsHigh hh) (IsHighNamed hh) (high-named hh) engine engine-lags c units e
-        (judged engine purse_aside units
+    pub infer_over_kept_heads : (depth : ℕ) (c : Context Var Name) (e : Term) (d : Coded Name) → Sortless d → meaning d ≡ core_below (names_of c) e → (units : ℕ)
+        → MayAnswerBy (IsHigh hh) (IsHighNamed hh) (high-named hh) keeping keeping-lags c units e
+        (judged keeping purse_aside units
         (kept_typing (λ b. option_map to_core (type_of b)) (λ x. x)
-        (answers (λ b. option_map to_core (type_of b)) (λ x. x) cores (IsWideLicensed cores nesting) (IsHigh hh) purse_aside engine (λ s u g f p. engine-lags s u g f p) more types valid) depth (cored (core_below (names_of c)) c) d))
-    infer_over_engine = infer_with_kept (IsHigh hh) (IsHighNamed hh) (high-named hh) engine engine-lags more types valid
+        (answers (λ b. option_map to_core (type_of b)) (λ x. x) cores (IsWideLicensed cores nesting) (IsHigh hh) purse_aside keeping (λ s u g f p. keeping-lags s u g f p) more types valid) depth (cored (core_below (names_of c)) c) d))
+    infer_over_kept_heads = infer_with_kept (IsHigh hh) (IsHighNamed hh) (high-named hh) keeping keeping-lags more types valid

@@ -218,7 +218,7 @@ module _ {B : Type 0} where
           along (λ z. Q s (answers depth (plain_context c') v) (typing scopes (suc (plus depth more)) c z)) p.0
           (along (λ z. Q s (answers depth z v) (typing scopes (suc (plus depth more)) c v)) (sym (ap plain_context g ∙ plain-coded c)) (used depth c v))
 
-      -- SUBSTITUTION, for every relation of inferences and whatever each use of a value answers
+      -- Substitution, for every relation of inferences and whatever each use of a value answers
       pub substitution : (depth : ℕ) (c : Context Ref B) (d : Coded B) → Sortless d → Q tt (kept_typing types binder answers depth c d) (typing scopes (plus depth more) c (meaning d))
       substitution depth c d h =
           typing-alike embedding StandsFor IsCoded Q scopes (cell_scopes types binder) scopes-embedded coded-expressions q entering-coded more (looking answers)

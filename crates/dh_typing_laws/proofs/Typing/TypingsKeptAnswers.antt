@@ -61,9 +61,9 @@ module _ {B : Type 0} (types : Builtin → Option (Tree Ref B)) (binder : Name �
   use-lag (At path rule) j r units = along (λ z. TypingLag L wide deep purse (moved embedding tt) units j z) (sym (failing-judged machine purse units path rule)) r
   use-lag Unknown j r units = embedded-alike Q q j units
 
-  -- KEPT TYPES. `kept` is what is kept of each value in each context; with `more` depth or more it is what the value comes
-  -- to there. Then typing with kept answers, over a machine that takes no more than the plain count, answers what D8 allows
-  -- for the expression with its values put in.
+  -- Kept types. `kept` is what is kept of each value in each context; with `more` depth or more it is what the value comes
+  -- to there. Then typing with kept answers, over a machine that takes no more than the plain count, answers what may be
+  -- answered for the expression with its values put in.
   module _ (more : ℕ) (kept : Context Ref B → Tree Ref B → Kept (Tree Ref B))
       (valid : (depth : ℕ) (c : Context Ref B) (v : Tree Ref B) → IsKept L (typing scopes (suc (plus depth more)) c v) (kept c v)) where
     abbrev pub answers : ℕ → Context Ref B → Tree Ref B → Inference (Coded B)

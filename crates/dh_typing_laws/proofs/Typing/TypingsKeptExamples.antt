@@ -72,7 +72,7 @@ plain_ill = refl
 kept_ill : core_kept (λ v. At (1 ∷ 0 ∷ []) rule.LeftSide) 9 (cell_sub (held ill) (embed field)) ≡ Ill (0 ∷ 1 ∷ 0 ∷ []) rule.LeftSide
 kept_ill = refl
 
--- ---- where substitution would be FALSE: an annotation that is a variable with the value `Sort`
+-- ---- where substitution would be false: an annotation that is a variable with the value `Sort`
 
 abbrev empty : Core
 empty = form.empty_list (Leaf (Bound 0))
@@ -89,7 +89,7 @@ kept_sort = refl
 held_sort : core_kept (λ v. At [] rule.SortHasNoType) 9 (cell_sub (held (form.builtin builtins.Sort)) (embed empty)) ≡ Ill [] rule.EmptyListAnnotation
 held_sort = refl
 
--- ---- where all three laws would be FALSE: joining record types that looks past a binder, on a node that is not well formed
+-- ---- where all three laws would be false: joining record types that looks past a binder, on a node that is not well formed
 
 abbrev mutual
   past : Core → Core → Option Core

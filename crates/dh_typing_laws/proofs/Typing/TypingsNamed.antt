@@ -316,7 +316,7 @@ core-runs heights ys units d e p =
     ap (λ u. run (endless cores) heights Whole u d) (sym (plus-zero units))
     ∙ answer-of ys _ _ (run-alike 0 false false (λ z. refl) (endless names) (endless cores) Rel core-alike heights heights (reaches-itself false heights) (ys, tt) Whole units e d (sym p ∙ sym (moved-staying d)))
 
--- NAMES: the nameless form of an expression, in the nameless form of the context, comes to the nameless form of the type
+-- The nameless form of an expression, in the nameless form of the context, comes to the nameless form of the type
 -- with the same units left, to the same path and rule, or to the same limit
 pub nameless_judged : (heights purse depth : ℕ) (ys : List Name) (c' : Context Ref Name) (c : Context Var Name) (units : ℕ) (e : Term) → IsCored ys c' c
     → judged_within cores heights purse units (typing core_scopes depth c' (core_below ys e)) ≡ judgment_map (core_below ys) (named.infer heights purse depth c units e)

@@ -202,7 +202,7 @@ module _ {B : Type 0} where
     pub longer-by_one : (x : B) (t : Tree Ref B) (c : Context Ref B) → IsLonger one (enter scopes x t c) c
     longer-by_one x t c i = nth-map (ren (λ k. suc k)) c i ∙ ap (λ g. option_map g (nth_type c i)) (sym (fun_ext (keeping-ren one)))
 
-    -- WEAKENING, for every relation of inferences
+    -- Weakening, for every relation of inferences
     module _ (Q : Apart → Inference (Tree Ref B) → Inference (Tree Ref B) → Type 0) (q : Courses keeping (IsMoved keeping) Q) where
       pub weakening : (depth : ℕ) (s : Apart) (c' c : Context Ref B) (e : Tree Ref B) → IsLonger s c' c → Q s (typing scopes depth c' (moved keeping s e)) (typing scopes depth c e)
       weakening depth s c' c e g = typing-moved keeping scopes scopes scopes-kept puts-kept IsLonger Q q entering-kept looks-kept depth s c' c e g
@@ -255,7 +255,7 @@ module _ {B : Type 0} where
           ap (λ u. run (endless L) heights Whole u d) (sym (plus-zero units))
           ∙ answer-of s _ _ (run-alike 0 false false (λ z. refl) (endless L) (endless L) Rel kept_alike heights heights (reaches-itself false heights) (s, tt) Whole units e d (sym p ∙ sym (moved-staying d)))
 
-      -- WEAKENING: in the longer context the renamed expression comes to the renamed type with the same units left, to the
+      -- Weakening: in the longer context the renamed expression comes to the renamed type with the same units left, to the
       -- same path and rule, or to the same limit
       pub weakened : (heights purse depth : ℕ) (s : Apart) (c' c : Context Ref B) (units : ℕ) (e : Tree Ref B) → IsLonger s c' c
           → judged_within L heights purse units (typing scopes depth c' (moved keeping s e)) ≡ judgment_map (moved keeping s) (judged_within L heights purse units (typing scopes depth c e))
