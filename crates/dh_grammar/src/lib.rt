@@ -1,5 +1,10 @@
-//! The grammar of the language as a machine with a stack that reads one token a step and never looks ahead, and its laws:
-//! each is the contract of a function that does nothing.
+//! The grammar of the language (`dhall.abnf`) as a machine with a stack that reads one token a step and never looks ahead, and
+//! its laws: each is the contract of a function that does nothing, as `parses()`, by which every text has the answer of the
+//! function `parsed` of `specs/Parsed`.
+//!
+//! `derivations` ties the machine to the grammar, `texts` to what bytes spell, `depths` and `places` say what a reader keeps
+//! beside expressions, and `readings` has the equations of its loop. A reader mirrors `specs/Machine` over what `specs/Stubs`
+//! makes, and over what `specs/Placing` makes where offsets are wanted.
 #![tactic(auto)]
 
 mod depths;

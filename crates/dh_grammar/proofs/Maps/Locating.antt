@@ -1,5 +1,5 @@
 -- The machine over stretches makes, at each token, those of what the machine over derivation trees makes there.
-use Rattle.std.proofs.Common.{◌≡◌, ℕ, zero, suc, Bool, true, false, [], ◌∷◌, refl, sym, ◌∙◌, ap}
+use Rattle.std.proofs.Common.{◌≡◌, ℕ, suc, Bool, true, false, [], ◌∷◌, refl, sym, ◌∙◌, ap}
 use Rattle.std.specs.Prelude.{nat_le, ◌||◌, if◌then◌else◌, ◌&&◌, Option, Some, None, codes}
 use Rattle.dh_syntax.specs.declared.locations.Digest.{Digest}
 use Rattle.dh_syntax.specs.declared.locations.Mode.TheVariants as modes
@@ -23,6 +23,7 @@ use Rattle.dh_grammar.specs.Inside.Located.{end, place, open_place, held_end, wa
 use Rattle.dh_grammar.specs.Placing as placing
 use Rattle.dh_grammar.specs.Placing.{place_sorts, back}
 use Rattle.dh_grammar.specs.Trees.{Open, Shut, Held, Wait, Stack, State, trees, add_entry}
+use Rattle.dh_grammar.proofs.TokenNumbers.{back-skip}
 use Rattle.dh_grammar.proofs.Maps.Carrying.{by_same_test}
 use Rattle.dh_grammar.proofs.Maps.Counting.{held_joins}
 use Rattle.dh_grammar.proofs.Maps.Forgetting.{among_put, among_last}
@@ -31,12 +32,6 @@ use Rattle.dh_syntax.specs.Text.Noting.{Noting}
 module _ (notes : Noting) (parts-node : (from to : ℕ) (r : notes.row) → notes.parts (notes.node from to r) ≡ r) where
   abbrev PlacedState : Type 0
   PlacedState = machine.State (place_sorts notes)
-
-  -- ---- numbers of tokens
-
-  back-skip : (n i : ℕ) → back n (skip n i) ≡ i
-  back-skip zero i = refl
-  back-skip (suc n) i = back-skip n i
 
   -- ---- levels
 
