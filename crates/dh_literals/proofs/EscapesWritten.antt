@@ -61,7 +61,8 @@ plain_pushed c old new (Ok x) s low p q d e = e ∙ ap (λ l. old ++ l) (sym (pl
 plain_pushed c old new (Err x) s low p q d e = tt
 
 -- one character more
-pub escaped_more : (text text' done : List ℕ) (c : ℕ) → text ≡ escape (encodes done) → text' ≡ text ++ escape (encode c) → text' ≡ escape (encodes (done ++ c ∷ []))
-escaped_more text text' done c e f =
+pub escaped_more : (text text' old done : List ℕ) (c : ℕ) → text ≡ old ++ escape (encodes done) → text' ≡ text ++ escape (encode c) → text' ≡ old ++ escape (encodes (done ++ c ∷ []))
+escaped_more text text' old done c e f =
     let all : encodes (done ++ c ∷ []) ≡ encodes done ++ encode c = encodes-append done (c ∷ []) ∙ ap (λ l. encodes done ++ l) (append-nil (encode c)) in
-    f ∙ ap (λ l. l ++ escape (encode c)) e ∙ sym (escape-append (encodes done) (encode c)) ∙ ap escape (sym all)
+    f ∙ ap (λ l. l ++ escape (encode c)) e ∙ append_assoc old (escape (encodes done)) (escape (encode c))
+    ∙ ap (λ l. old ++ l) (sym (escape-append (encodes done) (encode c)) ∙ ap escape (sym all))

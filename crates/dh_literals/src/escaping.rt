@@ -9,13 +9,21 @@ pub fn escape(alloc: Global, piece: &Piece) -> Result<Piece, AllocError>
     ensures { IfOk result (λ p. p ≡ escape piece.now) }
 {
     let mut text = String::new(alloc);
-    for c in piece.as_str().chars() {
-        push_escaped(&mut text, c)?;
-    }
+    push_escaped(&mut text, piece)?;
     Ok(Piece::of(text))
 }
 
-fn push_escaped(text: &mut String, c: char) -> Result<(), AllocError>
+/// Writes a text as it is printed between double quotes.
+pub fn push_escaped(text: &mut String, piece: &Piece) -> Result<(), AllocError>
+    ensures { OnOk result (string_bytes text.new ≡ string_bytes text.old ++ escape piece.now) }
+{
+    for c in piece.as_str().chars() {
+        push_character(text, c)?;
+    }
+    Ok(())
+}
+
+fn push_character(text: &mut String, c: char) -> Result<(), AllocError>
     ensures { OnOk result (string_bytes text.new
         ≡ string_bytes text.old ++ escape (encode_utf8 c)) }
 {

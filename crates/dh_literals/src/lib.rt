@@ -9,7 +9,9 @@ pub mod laws;
 mod numbers;
 
 pub use escapes::{read_escape, unescape};
-pub use escaping::escape;
+pub use escaping::{escape, push_escaped};
 pub use faults::LitFault;
 pub use indentation::unindent;
-pub use numbers::{read_integer, read_natural, write_integer, write_natural};
+pub use numbers::{
+    push_integer, push_natural, read_integer, read_natural, write_integer, write_natural,
+};

@@ -1,4 +1,4 @@
-ghost use Rattle.std.specs.Prelude.{◌≡◌, IsTrue, IfOk};
+ghost use Rattle.std.specs.Prelude.{◌≡◌, ◌++◌, IsTrue, IfOk, OnOk, string_bytes};
 ghost use Rattle.dh_syntax.specs.Text.Numerals.{is_natural, is_integer, read_natural, read_integer, write_natural, write_integer};
 
 use dh_syntax::Piece;
@@ -42,12 +42,27 @@ pub fn write_natural(alloc: Global, n: u128) -> Result<Piece, AllocError>
 pub fn write_integer(alloc: Global, n: i128) -> Result<Piece, AllocError>
     ensures { IfOk result (λ p. p ≡ write_integer n) }
 {
-    if n < 0 {
-        return Piece::new(alloc, Buffer::new().format(n));
-    }
-    let mut text = String::from_str(alloc, "+")?;
-    text.push_str(Buffer::new().format(n))?;
+    let mut text = String::new(alloc);
+    push_integer(&mut text, n)?;
     Ok(Piece::of(text))
+}
+
+/// Writes a natural as it is printed.
+pub fn push_natural(text: &mut String, n: u128) -> Result<(), AllocError>
+    ensures { OnOk result (string_bytes text.new ≡ string_bytes text.old ++ write_natural n) }
+{
+    text.push_str(Buffer::new().format(n))
+}
+
+/// Writes an integer as it is printed.
+pub fn push_integer(text: &mut String, n: i128) -> Result<(), AllocError>
+    ensures { OnOk result (string_bytes text.new ≡ string_bytes text.old ++ write_integer n) }
+{
+    if n < 0 {
+        return text.push_str(Buffer::new().format(n));
+    }
+    text.push_str("+")?;
+    text.push_str(Buffer::new().format(n))
 }
 
 #[cfg(test)]

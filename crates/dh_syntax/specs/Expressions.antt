@@ -12,5 +12,5 @@ pub mod Rows
 pub mod SameTree
 pub mod Spellable
 pub mod Tree
-pub mod Views
 pub mod Values
+pub mod Views

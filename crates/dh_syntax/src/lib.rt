@@ -3,6 +3,7 @@
 
 mod copies;
 mod expressions;
+mod fault_lines;
 mod faults;
 mod limits;
 mod lists;
@@ -15,6 +16,7 @@ mod statuses;
 mod texts;
 mod tokens;
 mod values;
+mod verbs;
 
 pub use copies::{copy, copy_alts, copy_kids, copy_labels, copy_name, copy_path, copy_pieces};
 pub use expressions::{Alt, Alts, Expr, Kid, Kids, Labels, Op, Pieces};
@@ -33,3 +35,4 @@ pub use statuses::Status;
 pub use texts::{Bytes, Label, Piece};
 pub use tokens::{Keyword, Mark, TextForm, Token, TokenKind};
 pub use values::assure_values;
+pub use verbs::Verb;

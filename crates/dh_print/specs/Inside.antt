@@ -1,0 +1,4 @@
+pub mod Binders
+pub mod Levels
+pub mod Names
+pub mod Parts
