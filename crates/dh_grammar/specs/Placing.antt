@@ -1,5 +1,6 @@
--- The machine that notes where the nodes of an expression stand, or its imports. Of a part it keeps the number of its first token and of the token behind it; all
--- that a part adds to these is a count, so nothing is kept beside the parts. A step is given the number of the token that it reads.
+-- The machine that notes where the nodes of an expression stand, or its imports. Of a part it keeps the number of its first token
+-- and that of the token behind it; all that a part adds to these is a count, so nothing is kept beside the parts. A step is given
+-- the number of the token that it reads.
 use Rattle.std.specs.Prelude.{ℕ, zero, suc, ◌+◌, Bool, true, false, List, [], ◌∷◌, ◌++◌, Option, Some, None}
 use Rattle.dh_syntax.specs.declared.locations.Digest.{Digest}
 use Rattle.dh_syntax.specs.declared.locations.Mode.{Mode}
@@ -18,7 +19,7 @@ back (suc n) zero = zero
 back (suc n) (suc i) = back n i
 
 module _ (notes : Noting) where
-  -- an operand: its first token and the one behind it, and the stretch of its expression with those of the parts
+  -- an operand: its first token and the one behind it, brackets included, and what is noted of its expression
   pub record Placed : Type 0 where
     pub first : ℕ
     pub last : ℕ
@@ -27,7 +28,7 @@ module _ (notes : Noting) where
     -- exactly `merge` with two arguments or `toMap` with one
     pub special : Bool
 
-  -- parts in the order of the text: the first token, and their stretches
+  -- parts in the order of the text: the first token, and what is noted of them
   pub record Row : Type 0 where
     pub first : ℕ
     pub nodes : notes.row
