@@ -3,8 +3,7 @@ pub mod Deep
 pub mod Ending
 pub mod OneOutcome
 pub mod Parsing
+pub mod Places
 pub mod ReadingSteps
 pub mod Spelled
 pub mod Unique
-pub mod WithOffsets
-pub mod WithStretches

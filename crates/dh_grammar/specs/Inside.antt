@@ -5,5 +5,4 @@ pub mod Located
 pub mod Mapping
 pub mod SoundTokens
 pub mod Terms
-pub mod TreePicks
 pub mod Valid

@@ -1,6 +1,5 @@
 pub mod Depths
 pub mod Derivations
-pub mod Offsets
+pub mod Places
 pub mod Readings
-pub mod Stretches
 pub mod Texts

@@ -4,7 +4,6 @@ pub mod Laws
 pub mod Machine
 pub mod Making
 pub mod Parsed
-pub mod Picks
 pub mod Placing
 pub mod Reading
 pub mod Running

@@ -11,6 +11,7 @@ pub mod LexTexts
 pub mod Lexing
 pub mod Literals
 pub mod Meaning
+pub mod Noting
 pub mod Numerals
 pub mod Offsets
 pub mod Printed

@@ -11,7 +11,8 @@ use Rattle.dh_syntax.specs.declared.tokens.Token.{Token}
 use Rattle.dh_syntax.specs.Text.Derivation.{path, url, environment, missing, Derivation, lambda, pi, arrow, choice, lets, updates, merge_as, to_map_as, empty_list, assertion, annotation, operation, application, merging, some_of, to_map, import, field, project_none, project, project_by, natural, integer, truth, builtin, variable, text, brackets, list, union_none, union, record_type_none, record_type, record_none, record_of, untyped, typed, one_let, more_lets, one_update, more_updates, start, more_chunks, one_item, more_items, one_key, more_keys, one_alternative, more_alternatives, one_field, more_fields, alone, given, one_entry, more_entries, Entry}
 use Rattle.dh_examples.specs.Text.GrammarExamples.{tokens_of, name, key}
 use Rattle.dh_syntax.specs.Text.Lexing.{LexFault}
-use Rattle.dh_syntax.specs.Text.Offsets.{offsets, import_offsets}
+use Rattle.dh_syntax.specs.Text.Noting.{noted}
+use Rattle.dh_syntax.specs.Text.Offsets.{import_offsets, locating}
 
 abbrev found : Derivation → Result (List Token) LexFault → List ℕ
 found d (Ok tokens) = import_offsets tokens d
@@ -62,67 +63,67 @@ of_each_kind = refl
 abbrev m : Derivation
 m = import missing None modes.Code
 
--- of these offsets in the order of the text, those of a tree
-abbrev Takes : Derivation → List ℕ → Type 0
-Takes d places = (offsets d (0 ∷ 1 ∷ 2 ∷ 3 ∷ 4 ∷ 5 ∷ [])).0 ≡ places
+-- the numbers of the tokens that are a tree's locations, in the order of the nodes
+abbrev Finds : Derivation → List ℕ → Type 0
+Finds d numbers = (noted locating d 0).0 ≡ numbers
 
 -- where the parts stand in the order of the nodes: forms with one part, two and three
 one_part :
-    map (λ d. (offsets d (0 ∷ 1 ∷ [])).0) (m ∷ empty_list false m ∷ assertion m ∷ some_of m ∷ to_map m ∷ field m (key "x") ∷ project_none m false
+    map (λ d. (noted locating d 0).0) (m ∷ empty_list false m ∷ assertion m ∷ some_of m ∷ to_map m ∷ field m (key "x") ∷ project_none m false
     ∷ project m false (one_key (key "x")) false ∷ brackets m ∷ [])
-    ≡ (0 ∷ []) ∷ (0 ∷ []) ∷ (0 ∷ []) ∷ (0 ∷ []) ∷ (0 ∷ []) ∷ (0 ∷ []) ∷ (0 ∷ []) ∷ (0 ∷ []) ∷ (0 ∷ []) ∷ []
+    ≡ (0 ∷ []) ∷ (3 ∷ []) ∷ (2 ∷ []) ∷ (1 ∷ []) ∷ (1 ∷ []) ∷ (0 ∷ []) ∷ (0 ∷ []) ∷ (0 ∷ []) ∷ (1 ∷ []) ∷ []
 one_part = refl
 
--- `{ y = missing, x = missing }`, whose offsets are turned round
+-- `{ y = missing, x = missing }`, nine tokens, whose locations are turned round
 abbrev r : Derivation
 r = record_of false (more_entries (one_entry (equals "y" m)) (equals "x" m)) false
 
 two_parts :
-    map (λ d. (offsets d (0 ∷ 1 ∷ 2 ∷ 3 ∷ [])).0) (lambda (name "x") r m ∷ pi (name "x") r m ∷ arrow r m ∷ to_map_as r m ∷ annotation r m ∷ operation binary.Plus r m
+    map (λ d. (noted locating d 0).0) (lambda (name "x") r m ∷ pi (name "x") r m ∷ arrow r m ∷ to_map_as r m ∷ annotation r m ∷ operation binary.Plus r m
     ∷ application r m ∷ merging r m ∷ project_by r m ∷ [])
-    ≡ (1 ∷ 0 ∷ 2 ∷ []) ∷ (1 ∷ 0 ∷ 2 ∷ []) ∷ (1 ∷ 0 ∷ 2 ∷ []) ∷ (1 ∷ 0 ∷ 2 ∷ []) ∷ (1 ∷ 0 ∷ 2 ∷ []) ∷ (1 ∷ 0 ∷ 2 ∷ []) ∷ (1 ∷ 0 ∷ 2 ∷ []) ∷ (1 ∷ 0 ∷ 2 ∷ []) ∷ (1 ∷ 0 ∷ 2 ∷ []) ∷ []
+    ≡ (11 ∷ 7 ∷ 15 ∷ []) ∷ (11 ∷ 7 ∷ 15 ∷ []) ∷ (7 ∷ 3 ∷ 10 ∷ []) ∷ (8 ∷ 4 ∷ 11 ∷ []) ∷ (7 ∷ 3 ∷ 10 ∷ []) ∷ (7 ∷ 3 ∷ 10 ∷ []) ∷ (7 ∷ 3 ∷ 9 ∷ []) ∷ (8 ∷ 4 ∷ 10 ∷ []) ∷ (7 ∷ 3 ∷ 11 ∷ []) ∷ []
 two_parts = refl
 
-three_parts : Takes (choice m r m) (0 ∷ 2 ∷ 1 ∷ 3 ∷ [])
+three_parts : Finds (choice m r m) (1 ∷ 10 ∷ 6 ∷ 13 ∷ [])
 three_parts = refl
 
-annotated_merge : Takes (merge_as m r m) (0 ∷ 2 ∷ 1 ∷ 3 ∷ [])
+annotated_merge : Finds (merge_as m r m) (1 ∷ 9 ∷ 5 ∷ 12 ∷ [])
 annotated_merge = refl
 
-several_lets : Takes (lets (more_lets (one_let (name "x") (typed r) m) (name "y") (typed m) m) m) (1 ∷ 0 ∷ 2 ∷ 3 ∷ 4 ∷ 5 ∷ [])
+several_lets : Finds (lets (more_lets (one_let (name "x") (typed r) m) (name "y") (typed m) m) m) (10 ∷ 6 ∷ 13 ∷ 17 ∷ 19 ∷ 21 ∷ [])
 several_lets = refl
 
-several_updates : Takes (updates (more_updates (one_update r (one_key (key "x")) m) (one_key (key "y")) m)) (1 ∷ 0 ∷ 2 ∷ 3 ∷ [])
+several_updates : Finds (updates (more_updates (one_update r (one_key (key "x")) m) (one_key (key "y")) m)) (7 ∷ 3 ∷ 12 ∷ 16 ∷ [])
 several_updates = refl
 
-in_text : Takes (text forms.DoubleQuoted (more_chunks (more_chunks (start None) r None) m None)) (1 ∷ 0 ∷ 2 ∷ [])
+in_text : Finds (text forms.DoubleQuoted (more_chunks (more_chunks (start None) r None) m None)) (9 ∷ 5 ∷ 13 ∷ [])
 in_text = refl
 
-in_longer_list : Takes (list false (more_items (more_items (one_item r) m) r) false) (1 ∷ 0 ∷ 2 ∷ 4 ∷ 3 ∷ [])
+in_longer_list : Finds (list false (more_items (more_items (one_item r) m) r) false) (8 ∷ 4 ∷ 11 ∷ 20 ∷ 16 ∷ [])
 in_longer_list = refl
 
 -- `< y : missing | z | x : missing >`
-in_union : Takes (union false (more_alternatives (more_alternatives (one_alternative (key "y") (typed m)) (key "z") untyped) (key "x") (typed m)) false) (1 ∷ 0 ∷ [])
+in_union : Finds (union false (more_alternatives (more_alternatives (one_alternative (key "y") (typed m)) (key "z") untyped) (key "x") (typed m)) false) (9 ∷ 3 ∷ [])
 in_union = refl
 
 -- `{ y : missing, x : missing }`
-in_record_type : Takes (record_type false (more_fields (one_field (key "y") m) (key "x") m) false) (1 ∷ 0 ∷ [])
+in_record_type : Finds (record_type false (more_fields (one_field (key "y") m) (key "x") m) false) (7 ∷ 3 ∷ [])
 in_record_type = refl
 
 -- `{ y = missing, x, x.z = missing, a.y = missing, y = missing }`
 in_entries :
-    Takes (record_of false
+    Finds (record_of false
     (more_entries
     (more_entries (more_entries (more_entries (one_entry (equals "y" m)) (alone (key "x"))) (given (more_keys (one_key (key "x")) (key "z")) m))
     (given (more_keys (one_key (key "a")) (key "y")) m))
     (equals "y" m))
     false)
-    (2 ∷ 1 ∷ 0 ∷ 3 ∷ [])
+    (17 ∷ 11 ∷ 3 ∷ 21 ∷ [])
 in_entries = refl
 
 -- no import
 without_parts :
-    map (λ d. (offsets d (0 ∷ [])).0) (natural 1 ∷ integer (pos 1) ∷ truth true ∷ builtin builtins.Bool ∷ variable (name "x") None ∷ union_none false ∷ record_type_none false
+    map (λ d. (noted locating d 0).0) (natural 1 ∷ integer (pos 1) ∷ truth true ∷ builtin builtins.Bool ∷ variable (name "x") None ∷ union_none false ∷ record_type_none false
     ∷ record_none false false ∷ text forms.DoubleQuoted (start None) ∷ [])
     ≡ [] ∷ [] ∷ [] ∷ [] ∷ [] ∷ [] ∷ [] ∷ [] ∷ [] ∷ []
 without_parts = refl

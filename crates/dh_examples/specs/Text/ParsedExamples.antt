@@ -10,12 +10,13 @@ use Rattle.dh_syntax.specs.declared.tokens.TokenKind.{TokenKind}
 use Rattle.dh_syntax.specs.declared.tokens.TokenKind.TheVariants as kinds
 use Rattle.dh_examples.specs.Text.GrammarExamples.{tokens_of, node, nat, var}
 use Rattle.dh_syntax.specs.Text.Lexing.{LexFault}
-use Rattle.dh_syntax.specs.Text.Offsets.{location_ends}
+use Rattle.dh_syntax.specs.Text.Offsets.{locating, offsets_after}
+use Rattle.dh_syntax.specs.Text.Spans.{Spans, no_spans, span, spans, stretching, in_text}
 use Rattle.dh_syntax.specs.Expressions.Tree.{Term}
 use Rattle.dh_grammar.specs.Machine.{need}
 use Rattle.dh_grammar.specs.Parsed.{parsed_tokens, parsed_lex}
-use Rattle.dh_grammar.specs.Picks.{Picked, picking, chosen}
-use Rattle.dh_grammar.specs.Reading.{Outcome, accepted, refused, nested, reading}
+use Rattle.dh_grammar.specs.Placing.{Placed, placing}
+use Rattle.dh_grammar.specs.Reading.{Outcome, accepted, refused, nested, reading, reading_at}
 use Rattle.dh_grammar.specs.Stubs.{stubs}
 use Rattle.dh_syntax.specs.declared.tokens.Mark.TheVariants.{ParenClose, BracketOpen, BracketClose}
 
@@ -69,13 +70,13 @@ just_deep_enough = refl
 
 -- ---- imports
 
-abbrev places_of : List Token → Outcome Picked → List ℕ
-places_of ts (accepted p) = chosen (location_ends ts) p.picks.picks
+abbrev places_of : List Token → Outcome (Placed locating) → List ℕ
+places_of ts (accepted p) = offsets_after ts p.nodes
 places_of ts _ = []
 
 abbrev places : Result (List Token) LexFault → List ℕ
 places (Err fault) = []
-places (Ok ts) = places_of ts (reading picking (need []) ts)
+places (Ok ts) = places_of ts (reading_at (placing locating) 0 (need []) ts)
 
 in_record : places (tokens_of "{ b = ./x, a = ./y }") ≡ 18 ∷ 9 ∷ []
 unfolding tokens_of
@@ -88,6 +89,24 @@ in_let = refl
 in_joined_entries : places (tokens_of "{ a = ./x, b = ./y, a = ./z }") ≡ 9 ∷ 27 ∷ 18 ∷ []
 unfolding tokens_of
 in_joined_entries = refl
+
+-- ---- nodes
+
+abbrev nodes_of : List Token → Outcome (Placed stretching) → Spans
+nodes_of ts (accepted p) = in_text ts p.nodes
+nodes_of ts _ = no_spans
+
+abbrev nodes : Result (List Token) LexFault → Spans
+nodes (Err fault) = no_spans
+nodes (Ok ts) = nodes_of ts (reading_at (placing stretching) 0 (need []) ts)
+
+brackets_apart : nodes (tokens_of "(a + b) + c") ≡ spans 0 11 (span 1 6 (span 1 2 no_spans (spans 5 6 no_spans)) (spans 10 11 no_spans))
+unfolding tokens_of
+brackets_apart = refl
+
+merge_is_one : nodes (tokens_of "merge h u : T") ≡ spans 0 13 (span 6 7 no_spans (span 8 9 no_spans (spans 12 13 no_spans)))
+unfolding tokens_of
+merge_is_one = refl
 
 -- ---- too many open expressions
 

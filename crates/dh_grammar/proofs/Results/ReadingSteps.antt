@@ -1,10 +1,10 @@
 -- What one token is read as, over any state.
-use Rattle.std.proofs.Common.{◌≡◌, ℕ, suc, Bool, true, false, List, [], ◌∷◌, refl, ◌∙◌, ap, subst}
+use Rattle.std.proofs.Common.{◌≡◌, ℕ, suc, Bool, true, false, List, ◌∷◌, refl, ◌∙◌, ap, subst}
 use Rattle.std.specs.Prelude.{not, ◌||◌, if◌then◌else◌, nat_lt}
 use Rattle.dh_syntax.specs.declared.tokens.Token.{Token}
 use Rattle.dh_syntax.specs.Limits.{most_open}
 use Rattle.dh_grammar.specs.Depths.{Within, opens_many}
-use Rattle.dh_grammar.specs.Laws.Readings.{LacksGap, CannotStand, OpensTooMany, GoesOn, LacksGapAt, CannotStandAt, OpensTooManyAt, GoesOnAt, ReadsAlike}
+use Rattle.dh_grammar.specs.Laws.Readings.{LacksGap, CannotStand, OpensTooMany, GoesOn, LacksGapAt, CannotStandAt, OpensTooManyAt, GoesOnAt}
 use Rattle.dh_grammar.specs.Machine.{Sorts, Making, State, stopped, after, gap_at, depth_at}
 use Rattle.dh_grammar.specs.Reading.{Outcome, refused, nested, runs_still, step, reading, reading_at}
 use Rattle.dh_grammar.proofs.Grammar.Within.{keeps_within, tests_depth}
@@ -46,10 +46,6 @@ module _ {K : Sorts} (m : Making K) where
 
   pub goes_on : GoesOn m
   goes_on s t ts on w g e r d = (as_tested s t ts on true false (steps_to m s t on g e) r (tested m s t on false w e r d), subst Within e (keeps_within m s t.kind w d))
-
-  pub reads_alike : ReadsAlike m
-  reads_alike n s [] = refl
-  reads_alike n s (t ∷ ts) = ap (λ r. Chosen (runs_still (step m s t)) (nat_lt most_open (depth_at s t.kind)) t r) (reads_alike (suc n) (step m s t) ts)
 
 -- ---- by the number of the token
 

@@ -9,8 +9,7 @@ use Rattle.dh_syntax.specs.Text.Spans.{spans_of}
 use Rattle.dh_syntax.specs.Text.Spelling.{Spells, Derives, ParsesTo}
 use Rattle.dh_syntax.specs.Expressions.Tree.{Term}
 use Rattle.dh_grammar.specs.Laws.Texts.{SpellingIsUnique, ParsedIsSpellable}
-use Rattle.dh_grammar.specs.Laws.Offsets.{HasOffsets, OffsetsAreUnique}
-use Rattle.dh_grammar.specs.Laws.Stretches.{HasStretches, StretchesAreUnique}
+use Rattle.dh_grammar.specs.Laws.Places.{HasOffsets, OffsetsAreUnique, HasStretches, StretchesAreUnique}
 use Rattle.dh_grammar.proofs.Grammar.MachineLaws.{derivation_is_unique}
 use Rattle.dh_grammar.proofs.Results.Answering.{parses}
 

@@ -42,7 +42,3 @@ abbrev pub GoesOnAt : {K : Sorts} → (ℕ → Making K) → Type 0
 GoesOnAt {K} m =
     (n : ℕ) (s : State K) (t : Token) (ts : List Token) (on : State K) → Within s → (not (gap_at s t.kind) || t.gap) ≡ true → after (m n) t.kind s ≡ on → runs_still on ≡ true → opens_many s t.kind ≡ false
     → (reading_at m n s (t ∷ ts) ≡ reading_at m (suc n) on ts) × Within on
-
--- where it does not depend on the number, that is the plain reading
-abbrev pub ReadsAlike : {K : Sorts} → Making K → Type 0
-ReadsAlike {K} m = (n : ℕ) (s : State K) (ts : List Token) → reading_at (λ i. m) n s ts ≡ reading m s ts

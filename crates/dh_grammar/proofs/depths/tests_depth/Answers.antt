@@ -1,14 +1,15 @@
 use Rattle.dh_grammar.proofs.Grammar.Within as proof
 use Rattle.dh_grammar.proofs.depths.tests_depth.Goals as goal
-use Rattle.dh_grammar.specs.Stubs.{stubs}
-use Rattle.dh_grammar.specs.Picks.{picking}
+use Rattle.dh_syntax.specs.Text.Offsets.{locating}
+use Rattle.dh_syntax.specs.Text.Spans.{stretching}
 use Rattle.dh_grammar.specs.Placing.{placing}
+use Rattle.dh_grammar.specs.Stubs.{stubs}
 
 pub returns-clause-expressions : goal.returns-clause-expressions
 returns-clause-expressions c = proof.tests_depth stubs
 
 pub returns-clause-offsets : goal.returns-clause-offsets
-returns-clause-offsets c = proof.tests_depth picking
+returns-clause-offsets c = λ n. proof.tests_depth (placing locating n)
 
 pub returns-clause-stretches : goal.returns-clause-stretches
-returns-clause-stretches c = λ n. proof.tests_depth (placing n)
+returns-clause-stretches c = λ n. proof.tests_depth (placing stretching n)

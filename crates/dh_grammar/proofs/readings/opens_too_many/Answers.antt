@@ -1,14 +1,15 @@
 use Rattle.dh_grammar.proofs.Results.ReadingSteps as proof
 use Rattle.dh_grammar.proofs.readings.opens_too_many.Goals as goal
-use Rattle.dh_grammar.specs.Stubs.{stubs}
-use Rattle.dh_grammar.specs.Picks.{picking}
+use Rattle.dh_syntax.specs.Text.Offsets.{locating}
+use Rattle.dh_syntax.specs.Text.Spans.{stretching}
 use Rattle.dh_grammar.specs.Placing.{placing}
+use Rattle.dh_grammar.specs.Stubs.{stubs}
 
 pub returns-clause-expressions : goal.returns-clause-expressions
 returns-clause-expressions c = proof.opens_too_many stubs
 
 pub returns-clause-offsets : goal.returns-clause-offsets
-returns-clause-offsets c = proof.opens_too_many picking
+returns-clause-offsets c = proof.opens_too_many_at (placing locating)
 
 pub returns-clause-stretches : goal.returns-clause-stretches
-returns-clause-stretches c = proof.opens_too_many_at placing
+returns-clause-stretches c = proof.opens_too_many_at (placing stretching)

@@ -1,0 +1,5 @@
+use Rattle.dh_grammar.proofs.Results.Places as proof
+use Rattle.dh_grammar.proofs.places.reads_offsets.Goals as goal
+
+pub returns : goal.returns
+returns c = proof.reads_offsets
