@@ -79,13 +79,21 @@ fn write_node(text: &mut String, op: &Op, kids: &[Kid]) -> Result<(), AllocError
             write_parts(text, &[(" : ", ANY), (" = ", ANY), (" in ", ANY)], kids)
         }
         Op::App => write_parts(text, &[("", APPLICATION), (" ", IMPORT)], kids),
-        Op::If => write_parts(text, &[("if ", ANY), (" then ", ANY), (" else ", ANY)], kids),
+        Op::If => write_parts(
+            text,
+            &[("if ", ANY), (" then ", ANY), (" else ", ANY)],
+            kids,
+        ),
         Op::Bin(operator) => write_operation(text, *operator, kids),
         Op::EmptyList => write_parts(text, &[("[] : ", ANY)], kids),
         Op::List => write_list(text, kids),
         Op::Some => write_parts(text, &[("Some ", IMPORT)], kids),
         Op::Merge(false) => write_parts(text, &[("merge ", IMPORT), (" ", IMPORT)], kids),
-        Op::Merge(true) => write_parts(text, &[("merge ", IMPORT), (" ", IMPORT), (" : ", ANY)], kids),
+        Op::Merge(true) => write_parts(
+            text,
+            &[("merge ", IMPORT), (" ", IMPORT), (" : ", ANY)],
+            kids,
+        ),
         Op::RecordType(labels) => write_fields(text, "{}", " : ", labels.as_slice(), kids),
         Op::Record(labels) => write_fields(text, "{=}", " = ", labels.as_slice(), kids),
         Op::Field(label) => {
@@ -102,7 +110,11 @@ fn write_node(text: &mut String, op: &Op, kids: &[Kid]) -> Result<(), AllocError
         }
         Op::Union(alts) => write_union(text, alts.as_slice(), kids),
         Op::Assert => write_parts(text, &[("assert : ", ANY)], kids),
-        Op::Annot => write_parts(text, &[("", level_before_annotation(kids)), (" : ", ANY)], kids),
+        Op::Annot => write_parts(
+            text,
+            &[("", level_before_annotation(kids)), (" : ", ANY)],
+            kids,
+        ),
         Op::ToMap(false) => write_parts(text, &[("toMap ", IMPORT)], kids),
         Op::ToMap(true) => write_parts(text, &[("toMap ", IMPORT), (" : ", ANY)], kids),
         Op::With(path) => write_update(text, path.as_slice(), kids),
@@ -133,7 +145,11 @@ fn write_operation(text: &mut String, operator: BinOp, kids: &[Kid]) -> Result<(
         ≡ string_bytes text.old ++ operation_text operator (row_of kids.now)) }
 {
     let right = operator_level(operator) + 1;
-    write_parts(text, &[("", left_level(operator)), (mark(operator), right)], kids)
+    write_parts(
+        text,
+        &[("", left_level(operator)), (mark(operator), right)],
+        kids,
+    )
 }
 
 /// The elements of a list in their brackets.
@@ -154,7 +170,13 @@ fn write_list(text: &mut String, kids: &[Kid]) -> Result<(), AllocError>
 
 /// The labels of a record or of a record type, each with its part, in their braces.
 #[cycle(write)]
-fn write_fields(text: &mut String, empty: &str, mark: &str, labels: &[Label], kids: &[Kid]) -> Result<(), AllocError>
+fn write_fields(
+    text: &mut String,
+    empty: &str,
+    mark: &str,
+    labels: &[Label],
+    kids: &[Kid],
+) -> Result<(), AllocError>
     requires count { length labels.now ≡ length kids.now }
     requires parts { AreWellFormed (row_of kids.now) }
     ensures { OnOk result (string_bytes text.new
