@@ -2,7 +2,8 @@
 use Rattle.std.specs.Prelude.{◌≡◌, ◌≤◌, ℕ, zero, suc, true, false, List, [], ◌∷◌, map, take, drop, Err, refl}
 use Rattle.std.proofs.Common.{inl, inr, lit<}
 use Rattle.dh_syntax.specs.declared.faults.DecodeFault.TheVariants as fault
-use Rattle.dh_syntax.specs.Bytes.BinaryFaults.{most_open, NestsTooDeep, OpensTooMany, DecodesTo}
+use Rattle.dh_syntax.specs.Bytes.BinaryFaults.{NestsTooDeep, OpensTooMany, DecodesTo}
+use Rattle.dh_syntax.specs.Limits.{most_open_items}
 use Rattle.dh_syntax.specs.Bytes.BinaryHeads as head
 use Rattle.dh_syntax.specs.Bytes.BinaryItems.{Item, item_marks, at_start, after_marks, open_at, opens_at_most}
 use Rattle.dh_syntax.specs.Bytes.BinaryRead.{Reads}
@@ -35,10 +36,10 @@ reads_no_deeper : (bytes : List ℕ) (e : Term) → Reads bytes e → nesting e 
 reads_no_deeper bytes e (i, h, x, n) = n
 
 -- 1,100 arrays may stand open
-opens_within : opens_at_most most_open (item_marks (deep_item 1100)) at_start ≡ true
+opens_within : opens_at_most most_open_items (item_marks (deep_item 1100)) at_start ≡ true
 opens_within = refl
 
-opens_without : opens_at_most most_open (item_marks (deep_item 1101)) at_start ≡ false
+opens_without : opens_at_most most_open_items (item_marks (deep_item 1101)) at_start ≡ false
 opens_without = refl
 
 opens_more : (bytes : List ℕ) (p : OpensTooMany bytes) → 1101 ≤ open_at p.mark (after_marks p.ms at_start)

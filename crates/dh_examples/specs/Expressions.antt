@@ -1,3 +1,4 @@
 pub mod ArityExamples
 pub mod OrderExamples
 pub mod SpellableExamples
+pub mod ValuesExamples

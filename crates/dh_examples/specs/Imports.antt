@@ -1,1 +1,3 @@
+pub mod ImportExamples
 pub mod LocationExamples
+pub mod MachineExamples

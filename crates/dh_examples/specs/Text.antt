@@ -12,7 +12,9 @@ pub mod LexExamplesFaults
 pub mod LexExamplesLocations
 pub mod LexExamplesTexts
 pub mod LiteralsExamples
+pub mod ParsedExamples
 pub mod PrintedExamples
 pub mod PrintedExamplesBrackets
 pub mod PrintedOperatorExamples
+pub mod SpansExamples
 pub mod SpellingExamples

@@ -1,5 +1,10 @@
 pub mod Alpha
+pub mod BuiltinNames
+pub mod Grafts
 pub mod Indices
+pub mod KeptHeads
+pub mod KeptRuns
+pub mod KeyOrder
 pub mod LabelOrder
 pub mod Nameless
 pub mod NamelessAnswers

@@ -2,7 +2,10 @@
 #![tactic(auto)]
 
 mod alpha;
+mod builtins;
 mod indices;
+mod kept_heads;
+mod keys;
 mod labels;
 mod nameless;
 mod nameless_runs;
@@ -15,17 +18,20 @@ pub use alpha::{
     alpha_equations, alpha_nesting, alpha_of_shift_down, alpha_of_shift_up, alpha_of_subst,
     alpha_once, free_after_alpha, same_decides, same_is_an_equivalence,
 };
+pub use builtins::builtin_names_tell;
 pub use indices::{
     indices_and_binders, indices_below_more, indices_of_alpha, indices_of_put, indices_of_shift_up,
     indices_of_subst, indices_put_under,
 };
+pub use kept_heads::{heads_found_again, keeping_answers, table_of_sub};
+pub use keys::key_order_is_total;
 pub use labels::label_order_is_total;
 pub use nameless::{
     alpha_reads_bare, core_of_put, core_of_shift_up, core_of_subst, forget_of_sub, reading_back,
     ren_is_sub, ren_of_first, ren_of_ren, ren_of_sub, same_is_bare, sub_of_first, sub_of_ren,
     sub_of_sub, sub_of_variables,
 };
-pub use nameless_runs::{runs_of_nameless, test_of_nameless};
+pub use nameless_runs::{endless_runs_of_nameless, runs_of_nameless, test_of_nameless};
 pub use runs::{
     cost_of_run, more_heights, more_units, more_units_plain, one_answer, one_cost, one_normal_form,
     over_below_cost, without_nesting,

@@ -1,10 +1,16 @@
 //! Laws of runs of nameless forms.
-ghost use Rattle.dh_laws.specs.NamelessAnswers.{CoreTest, BareTest, CoreRuns, BareRuns};
+ghost use Rattle.dh_laws.specs.NamelessAnswers.{CoreTest, BareTest, CoreRuns, BareRuns, CoreEndlessRuns, BareEndlessRuns};
 
 /// The run of a nameless form gives the nameless form of what the run of the expression gives, with the same units left.
 pub fn runs_of_nameless()
     ensures with_names { CoreRuns }
     ensures without_names { BareRuns }
+{}
+
+/// So it does without an end by nesting.
+pub fn endless_runs_of_nameless()
+    ensures with_names { CoreEndlessRuns }
+    ensures without_names { BareEndlessRuns }
 {}
 
 /// The test of nameless forms tells whether they are equal but for the names of binders.

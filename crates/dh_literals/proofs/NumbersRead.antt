@@ -11,7 +11,8 @@ use Rattle.std.specs.Result.{OkIff, result_ok}
 use Rattle.std.specs.Str.{byte}
 use Rattle.std.specs.Str.Parse.{AllDigits, IsNumeral, ParsesUnsigned, digits_value}
 use Rattle.dh_syntax.specs.Text.Characters.{first, begins}
-use Rattle.dh_syntax.specs.Text.Numerals.{is_natural, natural_len, natural_fits, read_natural}
+use Rattle.dh_syntax.specs.Text.Numerals.{is_natural, natural_len, read_natural}
+use Rattle.dh_syntax.specs.Limits.{natural_fits}
 
 pub decimal_digit : (c : ℕ) → is_ascii_digit c ≡ true → digit_value c < 10
 decimal_digit c h = grind (arith, nat_tests)

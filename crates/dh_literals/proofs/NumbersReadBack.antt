@@ -13,7 +13,9 @@ use Rattle.std.specs.List.{prefix_len}
 use Rattle.std.specs.Str.{byte}
 use Rattle.std.specs.Str.Parse.{AllDigits, digits_value}
 use Rattle.dh_syntax.specs.Text.Characters.{first, begins, is_sign}
-use Rattle.dh_syntax.specs.Text.Numerals.{is_natural, is_integer, natural_len, integer_len, natural_fits, integer_fits, natural_value, read_natural, read_integer, write_natural, write_integer}
+use Rattle.dh_syntax.specs.Text.Numerals.{is_natural, is_integer, natural_len, integer_len, natural_value, read_natural, read_integer, write_natural, write_integer}
+use Rattle.dh_syntax.specs.Limits.{natural_fits}
+use Rattle.dh_syntax.specs.Limits.{integer_fits}
 use Rattle.dh_literals.proofs.NumbersRead.{begins-not}
 
 decimal_digit : (c : ℕ) → digit_value c < 10 → is_ascii_digit c ≡ true

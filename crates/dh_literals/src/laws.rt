@@ -2,7 +2,8 @@
 ghost use Rattle.std.specs.Prelude.{◌≡◌, ℕ, ◌^◌, ◌<◌, ℤ, List, Some, Ok, IsTrue};
 ghost use Rattle.std.specs.Str.{IsUtf8};
 ghost use Rattle.dh_syntax.specs.Text.Literals.{escape, unescape};
-ghost use Rattle.dh_syntax.specs.Text.Numerals.{integer_fits, is_integer, is_natural, read_integer, read_natural, write_integer, write_natural};
+ghost use Rattle.dh_syntax.specs.Text.Numerals.{is_integer, is_natural, read_integer, read_natural, write_integer, write_natural};
+ghost use Rattle.dh_syntax.specs.Limits.{integer_fits};
 
 /// A printed natural is one natural literal, and is read as that natural.
 pub fn natural_read_back()

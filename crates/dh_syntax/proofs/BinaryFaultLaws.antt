@@ -6,12 +6,13 @@ use Rattle.std.proofs.lemmas.List.{append_assoc, append-nil}
 use Rattle.dh_syntax.specs.declared.faults.DecodeFault.{DecodeFault}
 use Rattle.dh_syntax.specs.declared.faults.DecodeFault.TheVariants as fault
 use Rattle.dh_syntax.specs.Expressions.Arity.{has_some}
-use Rattle.dh_syntax.specs.Bytes.BinaryFaults.{most_open, CanGoOn, BeginsNone, offset, Reached, HeadFails, IsNumber, Whole, NestsTooDeep, DecodesTo}
+use Rattle.dh_syntax.specs.Bytes.BinaryFaults.{CanGoOn, BeginsNone, offset, Reached, HeadFails, IsNumber, Whole, NestsTooDeep, DecodesTo}
+use Rattle.dh_syntax.specs.Limits.{most_open_items}
 use Rattle.dh_syntax.specs.Bytes.BinaryHeads.{HeadFault, cut, indefinite, float, foreign_tag, too_wide, Mark, Marked, atom, tag, unsigned, octets, Begun, begun, begun_by, before_begun, mark_at}
 use Rattle.dh_syntax.specs.Bytes.BinaryItems.{Item, item_marks, at_start, after_marks, open_at, opens_at_most}
 use Rattle.dh_syntax.specs.Bytes.BinaryRead.{expression, Begins, Reads}
 use Rattle.dh_syntax.specs.Expressions.Nesting.{nesting}
-use Rattle.dh_syntax.specs.Expressions.Spellable.{most_nesting}
+use Rattle.dh_syntax.specs.Limits.{most_nesting}
 use Rattle.dh_syntax.specs.Expressions.Tree.{Term}
 use Rattle.dh_syntax.proofs.BinaryDepth.{expression-depth}
 use Rattle.dh_syntax.proofs.BinaryOpen.{after-whole, opens-whole, opens-next}
@@ -101,7 +102,7 @@ data Next (bytes : List ℕ) (ms : List Mark) (a : List ℕ) (f : DecodeFault) :
   bad_head : (h : HeadFault) → mark_at a ≡ Err h → f ≡ head_fault h (offset bytes a) → Next bytes ms a f
   wide_number : (number : List Mark) (rest : List ℕ) → IsNumber number → Begins a number rest → CanGoOn true (ms ++ number) → ¬ CanGoOn false (ms ++ number) → f ≡ fault.Wide (offset bytes a) → Next bytes ms a f
   misfit : (m : Mark) (rest : List ℕ) → Begins a (m ∷ []) rest → BeginsNone (ms ++ m ∷ []) → f ≡ fault.Shape (offset bytes a) → Next bytes ms a f
-  too_open : (m : Mark) (rest : List ℕ) → Begins a (m ∷ []) rest → CanGoOn false (ms ++ m ∷ []) → most_open < open_at m (after_marks ms at_start) → f ≡ fault.TooNested → Next bytes ms a f
+  too_open : (m : Mark) (rest : List ℕ) → Begins a (m ∷ []) rest → CanGoOn false (ms ++ m ∷ []) → most_open_items < open_at m (after_marks ms at_start) → f ≡ fault.TooNested → Next bytes ms a f
 
 -- the head that stands next
 abbrev IsNext : List ℕ → Mark → Type 0
@@ -143,7 +144,7 @@ not_misfit ms a number rest v g fits m k none =
     let c : CanGoOn true (ms ++ n ∷ []) = goes_on_with true ms n more (subst (λ x. CanGoOn true (ms ++ x)) p fits) in
     none true (subst (λ x. CanGoOn true (ms ++ x ∷ [])) (sym q) c)
 
-not_too_open : (ms : List Mark) (a : List ℕ) (number : List Mark) (rest : List ℕ) → Shown number → Begins a number rest → ¬ CanGoOn false (ms ++ number) → (m : Mark) → IsNext a m → CanGoOn false (ms ++ m ∷ []) → most_open < open_at m (after_marks ms at_start) → ⊥
+not_too_open : (ms : List Mark) (a : List ℕ) (number : List Mark) (rest : List ℕ) → Shown number → Begins a number rest → ¬ CanGoOn false (ms ++ number) → (m : Mark) → IsNext a m → CanGoOn false (ms ++ m ∷ []) → most_open_items < open_at m (after_marks ms at_start) → ⊥
 not_too_open ms a number rest (inl (n, p)) g wide m k sound many =
     let l = next_of a (atom (unsigned n)) [] rest (subst (λ x. Begins a x rest) p g) in
     let q : m ≡ atom (unsigned n) = next_same a m (atom (unsigned n)) k l in
@@ -151,7 +152,7 @@ not_too_open ms a number rest (inl (n, p)) g wide m k sound many =
 not_too_open ms a number rest (inr (t, bs, p)) g wide m k sound many =
     let l = next_of a (tag t) (atom (octets bs) ∷ []) rest (subst (λ x. Begins a x rest) p g) in
     let q : m ≡ tag t = next_same a m (tag t) k l in
-    let z : most_open < open_at (tag t) (after_marks ms at_start) = subst (λ x. most_open < open_at x (after_marks ms at_start)) q many in
+    let z : most_open_items < open_at (tag t) (after_marks ms at_start) = subst (λ x. most_open_items < open_at x (after_marks ms at_start)) q many in
     omega arith
 
 number_head : (a : List ℕ) (number : List Mark) (rest : List ℕ) (h : HeadFault) → Shown number → Begins a number rest → mark_at a ≡ Err h → ⊥
@@ -216,15 +217,15 @@ behind_number ms a ns b n rest (inr (t, bs, p)) g fits wide l sound pending =
     (subst (λ y. CanGoOn true (ms ++ y)) p fits) (λ c. wide (subst (λ y. CanGoOn false (ms ++ y)) (sym p) c))
 
 behind : (bytes : List ℕ) (ms : List Mark) (a : List ℕ) (f : DecodeFault) (ns : List Mark) (b : List ℕ) → Next bytes ms a f → Longer ms a ns b
-    → CanGoOn false ns → IsTrue (opens_at_most most_open ns at_start) → Pending ns b → ⊥
+    → CanGoOn false ns → IsTrue (opens_at_most most_open_items ns at_start) → Pending ns b → ⊥
 behind bytes ms a f ns b (bad_head h p e) l sound within pending = no_next a l.mark h (l.rest, l.next) p
 behind bytes ms a f ns b (misfit m r g none e) l sound within pending =
     let q = next_same a l.mark m (l.rest, l.next) (next_of a m [] r g) in
     none false (subst (λ x. CanGoOn false (ms ++ x ∷ [])) q (goes_on_with false ms l.mark l.more (subst (CanGoOn false) l.longer sound)))
 behind bytes ms a f ns b (too_open m r g c w e) l sound within pending =
     let q = next_same a m l.mark (next_of a m [] r g) (l.rest, l.next) in
-    let o = opens-next most_open ms l.mark l.more at_start (subst (λ x. opens_at_most most_open x at_start ≡ true) l.longer within) in
-    let z : most_open < open_at l.mark (after_marks ms at_start) = subst (λ x. most_open < open_at x (after_marks ms at_start)) q w in
+    let o = opens-next most_open_items ms l.mark l.more at_start (subst (λ x. opens_at_most most_open_items x at_start ≡ true) l.longer within) in
+    let z : most_open_items < open_at l.mark (after_marks ms at_start) = subst (λ x. most_open_items < open_at x (after_marks ms at_start)) q w in
     omega arith
 behind bytes ms a f ns b (wide_number n rest i g c w e) l sound within pending = behind_number ms a ns b n rest (shown n i) g c w l sound pending
 
@@ -258,7 +259,7 @@ reads_end : (bytes : List ℕ) (e : Term) → Reads bytes e → End bytes (Ok e)
 unfolding end_of
 reads_end bytes e (i, h, x, n) =
     let d = expression-depth false i e x in
-    let w = opens-whole most_open i (omega arith) in
+    let w = opens-whole most_open_items i (omega arith) in
     record { e = e; a = []; whole = record { item = i; begins = h; is_expression = x; within = w }; answer = rw (le-leb (nesting e) most_nesting n) }
 
 left_answer : (bytes : List ℕ) (e : Term) (a : List ℕ) (at : ℕ) → ¬ (a ≡ []) → at ≡ offset bytes a → Err (fault.Rest at) ≡ end_of bytes e a
@@ -304,7 +305,7 @@ pending_next bytes ms a f (misfit m r g none e) bs k c =
     none true (subst (λ x. CanGoOn true (ms ++ x ∷ [])) q c)
 pending_next bytes ms a f (too_open m r g s w e) bs k c =
     let q = next_same a m (atom (octets bs)) (next_of a m [] r g) k in
-    let z : most_open < open_at (atom (octets bs)) (after_marks ms at_start) = subst (λ x. most_open < open_at x (after_marks ms at_start)) q w in
+    let z : most_open_items < open_at (atom (octets bs)) (after_marks ms at_start) = subst (λ x. most_open_items < open_at x (after_marks ms at_start)) q w in
     omega arith
 pending_next bytes ms a f (wide_number n r i g c' w e) bs k c = by_shown (shown n i)
   where

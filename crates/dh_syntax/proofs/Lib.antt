@@ -6,6 +6,7 @@ pub mod BinaryHeadsOf
 pub mod BinaryOpen
 pub mod BinaryReadLaws
 pub mod Bridge
+pub mod EveryNode
 pub mod LexingLaws
 pub mod LocationLaws
 pub mod Moves

@@ -12,4 +12,5 @@ pub mod Rows
 pub mod SameTree
 pub mod Spellable
 pub mod Tree
+pub mod Values
 pub mod Views

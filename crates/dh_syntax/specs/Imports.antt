@@ -1,1 +1,11 @@
+pub mod HonestCache
+pub mod Keeps
+pub mod Keys
+pub mod LastStep
 pub mod Locations
+pub mod Machine
+pub mod Outcomes
+pub mod Records
+pub mod Replay
+pub mod Resolver
+pub mod Walk

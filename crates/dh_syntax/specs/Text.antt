@@ -14,6 +14,7 @@ pub mod Meaning
 pub mod Numerals
 pub mod Offsets
 pub mod Printed
+pub mod Spans
 pub mod Spelling
 pub mod Stretches
 pub mod Yield

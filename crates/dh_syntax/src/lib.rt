@@ -3,7 +3,9 @@
 
 mod copies;
 mod expressions;
+mod fault_lines;
 mod faults;
+mod limits;
 mod lists;
 mod locations;
 mod operators;
@@ -13,10 +15,16 @@ mod shapes;
 mod statuses;
 mod texts;
 mod tokens;
+mod values;
+mod verbs;
 
 pub use copies::{copy, copy_alts, copy_kids, copy_labels, copy_name, copy_path, copy_pieces};
 pub use expressions::{Alt, Alts, Expr, Kid, Kids, Labels, Op, Pieces};
 pub use faults::{DecodeFault, Ill, NormFault, ParseFault, Path, TypeFault};
+pub use limits::{
+    MOST_BYTES, MOST_ELEMENTS, MOST_ENTRY_BYTES, MOST_HEIGHT, MOST_INDEX, MOST_KEYS, MOST_NESTING,
+    MOST_OPEN, MOST_OPEN_ITEMS, MOST_TEXT_BYTES, WHOLE_PURSE, limits_agree,
+};
 pub use lists::Many;
 pub use locations::{Comps, Digest, Import, Key, Loc, Mode, Url};
 pub use operators::{BinOp, Builtin};
@@ -26,3 +34,5 @@ pub use shapes::{arity_ok, is_well_formed, nest, nest_of_kids};
 pub use statuses::Status;
 pub use texts::{Bytes, Label, Piece};
 pub use tokens::{Keyword, Mark, TextForm, Token, TokenKind};
+pub use values::assure_values;
+pub use verbs::Verb;

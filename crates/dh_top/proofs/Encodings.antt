@@ -7,13 +7,12 @@ use Rattle.dh_ports.specs.Counts.{Rose}
 use Rattle.dh_syntax.specs.declared.faults.ParseFault.{ParseFault}
 use Rattle.dh_syntax.specs.Command.Answer.{Written, Answer, encodes, usage, encoded, misused, unread}
 use Rattle.dh_syntax.specs.Expressions.Tree.{Term}
-use Rattle.dh_syntax.specs.Command.Words.{Word, Verb, encode, command_of}
+use Rattle.dh_syntax.specs.Command.Words.{Word, command_of}
+use Rattle.dh_syntax.specs.declared.verbs.Verb.{Verb}
+use Rattle.dh_syntax.specs.declared.verbs.Verb.TheVariants as verb
 use Rattle.dh_parse.specs.SmallSpelling.{ParsesTo}
 use Rattle.dh_top.specs.declared.replies.Reply.{Reply}
 use Rattle.dh_top.specs.Replies.{written, Encodes, Performs}
-use Rattle.dh_top.specs.declared.words.Verb as program
-use Rattle.dh_top.specs.declared.words.Verb.TheVariants as verb
-use Rattle.dh_top.specs.Verbs.{asked}
 use Rattle.dh_top.specs.Runs.{Input, Makes, answers, cannot_read, IsRead, IsQuiet, reading, most_read}
 
 -- the reply to what a text is parsed to
@@ -41,28 +40,28 @@ parses_whole n text bytes o m e p = elim (cases_le (length text) n) [
   | inr h ↦ longer n text o m h (subst (λ t. ParsesTo t o) e p)
 ]
 
-answered : (n : ℕ) (words : List Word) (text bytes : List ℕ) (w : Written) → n ≡ 1048577 → command_of words ≡ Ok encode → bytes ≡ take n text
+answered : (n : ℕ) (words : List Word) (text bytes : List ℕ) (w : Written) → n ≡ 1048577 → command_of words ≡ Ok verb.Encode → bytes ≡ take n text
     → Encodes ParsesTo bytes w → Answer ParsesTo words text w
 answered n words text bytes w m c e r = encodes r.outcome c (parses_whole n text bytes r.outcome m e r.parses) r.writes
 
 -- the reading of a command
-is_read : (words : List Word) (v : Verb) (text : List ℕ) (input : Input) → command_of words ≡ Ok v
+is_read : (words : List Word) (text : List ℕ) (input : Input) → command_of words ≡ Ok verb.Encode
     → IfSome input.before (λ left. text ≡ left) → Consumes input.before input.after (take most_read text) → IsQuiet input → IsRead (command_of words) text input
-is_read words v text input c all taken quiet = subst (λ r. IsRead r text input) (sym c) (all, taken, quiet)
+is_read words text input c all taken quiet = subst (λ r. IsRead r text input) (sym c) (all, taken, quiet)
 
-made : (n : ℕ) (before after : Option (List ℕ)) (f g : ℕ) (words : List Word) (bytes : List ℕ) (w : Written) → n ≡ 1048577 → command_of words ≡ Ok encode
+made : (n : ℕ) (before after : Option (List ℕ)) (f g : ℕ) (words : List Word) (bytes : List ℕ) (w : Written) → n ≡ 1048577 → command_of words ≡ Ok verb.Encode
     → Consumes before after bytes → IfSome before (λ left. bytes ≡ take n left) → g ≡ f → Encodes ParsesTo bytes w → Makes ParsesTo words (reading before after f g) w
 made n None after f g words bytes w m c taken all quiet r =
-    answers bytes (is_read words encode bytes (reading None after f g) c tt tt quiet) (encodes r.outcome c r.parses r.writes)
+    answers bytes (is_read words bytes (reading None after f g) c tt tt quiet) (encodes r.outcome c r.parses r.writes)
 made n (Some left) after f g words bytes w m c taken all quiet r =
     let part : bytes ≡ take 1048577 left = subst (λ k. bytes ≡ take k left) m all in
-    answers left (is_read words encode left (reading (Some left) after f g) c refl (subst (Consumes (Some left) after) part taken) quiet)
+    answers left (is_read words left (reading (Some left) after f g) c refl (subst (Consumes (Some left) after) part taken) quiet)
     (answered n words left bytes w m c all r)
 
 -- `encode` on what was read
 pub performs_encode : (n : ℕ) (before after : Option (List ℕ)) (f g : ℕ) (bytes : List ℕ) (r : Result Reply AllocError) → n ≡ 1048577
     → Consumes before after bytes → IfSome before (λ left. bytes ≡ take n left) → g ≡ f → IfOk r (λ x. Encodes ParsesTo bytes (written x))
-    → IfOk r (λ x. Performs ParsesTo encode (reading before after f g) (written x))
+    → IfOk r (λ x. Performs ParsesTo verb.Encode (reading before after f g) (written x))
 performs_encode n before after f g bytes (Ok x) m taken all quiet h = λ words c. made n before after f g words bytes (written x) m c taken all quiet h
 performs_encode n before after f g bytes (Err e) m taken all quiet h = tt
 
@@ -89,8 +88,8 @@ keeps_itself None = tt
 keeps_itself (Some x) = refl
 
 -- a command on what was read; `bytes` is seen through a slice
-pub performs_command : (v : program.Verb) (n : ℕ) (before after : Option (List ℕ)) (f g : ℕ) (bytes seen : List ℕ) (r : Result Reply AllocError) → n ≡ 1048577
+pub performs_command : (v : Verb) (n : ℕ) (before after : Option (List ℕ)) (f g : ℕ) (bytes seen : List ℕ) (r : Result Reply AllocError) → n ≡ 1048577
     → Consumes before after bytes → IfSome before (λ left. bytes ≡ take n left) → g ≡ f → seen ≡ bytes → IfOk r (λ x. Encodes ParsesTo seen (written x))
-    → IfOk r (λ x. Performs ParsesTo (asked v) (reading before after f g) (written x))
+    → IfOk r (λ x. Performs ParsesTo v (reading before after f g) (written x))
 performs_command verb.Encode n before after f g bytes seen r m taken all quiet e h =
     performs_encode n before after f g bytes r m taken all quiet (subst (λ b. IfOk r (λ x. Encodes ParsesTo b (written x))) e h)

@@ -2,4 +2,3 @@ pub mod Inputs
 pub mod Replies
 pub mod Runs
 pub mod SmallBytes
-pub mod Verbs

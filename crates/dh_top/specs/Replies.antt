@@ -3,7 +3,8 @@ use Rattle.std.specs.Prelude.{◌≡◌, List, ℕ, Result, Ok}
 use Rattle.dh_syntax.specs.declared.faults.ParseFault.{ParseFault}
 use Rattle.dh_syntax.specs.Command.Answer.{Written, encoded}
 use Rattle.dh_syntax.specs.Expressions.Tree.{Term}
-use Rattle.dh_syntax.specs.Command.Words.{Word, Verb, command_of}
+use Rattle.dh_syntax.specs.Command.Words.{Word, command_of}
+use Rattle.dh_syntax.specs.declared.verbs.Verb.{Verb}
 use Rattle.dh_top.specs.Runs.{Input, Makes}
 use Rattle.dh_top.specs.declared.replies.Reply.{Reply}
 

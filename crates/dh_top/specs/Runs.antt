@@ -1,5 +1,5 @@
 -- What one run of the command does to its input and to its two outputs.
-use Rattle.std.specs.Prelude.{◌≡◌, ℕ, ◌<◌, ◌⊎◌, List, [], length, take, Option, IfSome, Result, Ok, Err, IsErr}
+use Rattle.std.specs.Prelude.{◌≡◌, ℕ, suc, ◌<◌, ◌⊎◌, List, [], length, take, Option, IfSome, MatchBool, Result, Ok, Err, IsErr}
 use Rattle.std.specs.Io.{StartsWith}
 use Rattle.std.specs.Io.KnownBytes.{Appends, Consumes, Keeps}
 use Rattle.dh_ports.specs.Counts.{Rose}
@@ -8,8 +8,10 @@ use Rattle.dh_syntax.specs.declared.statuses.Status.{Status}
 use Rattle.dh_syntax.specs.declared.statuses.Status.TheVariants as status
 use Rattle.dh_syntax.specs.Command.Answer.{Written, Answer, line, unread, without_memory}
 use Rattle.dh_syntax.specs.Command.FaultLines.{read_line, write_line}
+use Rattle.dh_syntax.specs.Limits.{most_bytes}
 use Rattle.dh_syntax.specs.Expressions.Tree.{Term}
-use Rattle.dh_syntax.specs.Command.Words.{Word, Verb, command_of}
+use Rattle.dh_syntax.specs.Command.Words.{Word, reads, command_of}
+use Rattle.dh_syntax.specs.declared.verbs.Verb.{Verb}
 
 -- the input before and after a run: what is left, where that is known, and how many reads have failed
 pub record Input : Type 0 where
@@ -33,18 +35,25 @@ reading before after faults_before faults_after = record { before = before; afte
 
 -- at most so many bytes are read, one more than a text may have
 abbrev pub most_read : ℕ
-most_read = 1048577
+most_read = suc most_bytes
 
 -- no read of the input failed and was counted
 abbrev pub IsQuiet : Input → Type 0
 IsQuiet input = input.faults_after ≡ input.faults_before
 
--- A command reads its input, which is what was left, to the end or up to the most that is read, and no read fails.
--- Words that are no command line leave it alone.
-abbrev pub IsRead : Result Verb ℕ → List ℕ → Input → Type 0
-IsRead (Ok v) text input =
+-- The input is what was left; it is read to its end or up to the most that is read, and no read fails.
+abbrev pub IsTaken : List ℕ → Input → Type 0
+IsTaken text input =
     IfSome input.before (λ left. text ≡ left) × Consumes input.before input.after (take most_read text) × IsQuiet input
-IsRead (Err k) text input = Keeps input.before input.after × IsQuiet input
+
+-- The input is left alone.
+abbrev pub IsLeft : Input → Type 0
+IsLeft input = Keeps input.before input.after × IsQuiet input
+
+-- A command that reads takes its input. Another one, and words that are no command line, leave it alone.
+abbrev pub IsRead : Result Verb ℕ → List ℕ → Input → Type 0
+IsRead (Ok v) text input = MatchBool (reads v) (IsTaken text input) (IsLeft input)
+IsRead (Err k) text input = IsLeft input
 
 -- What a run has to write: the answer to its words and its input, or one of the two faults that come before an answer.
 pub data Makes (Parses : List ℕ → Result Term ParseFault → Type 0) (words : List Word) (input : Input) (w : Written) : Type 0 where

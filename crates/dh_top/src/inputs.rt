@@ -5,10 +5,11 @@ ghost use Rattle.dh_top.specs.Runs.{most_read};
 ghost use Rattle.dh_top.specs.Inputs.{TakesPiece};
 
 use dh_ports::Feed;
+use dh_syntax::MOST_BYTES;
 use std::alloc::{AllocError, Global};
 
 /// The most that is read of an input: one byte more than a text may have.
-pub const MOST_READ: usize = 1_048_577;
+pub const MOST_READ: usize = MOST_BYTES + 1;
 
 /// How many bytes are read at once.
 const PIECE: usize = 4096;

@@ -9,9 +9,7 @@ mod small_encoder;
 mod words;
 
 pub use runs::run_dhall;
-pub use words::{Verb, read_words};
+pub use words::read_words;
 
-#[cfg(test)]
-mod copy_tests;
 #[cfg(test)]
 mod tests;

@@ -1,19 +1,19 @@
-ghost use Rattle.std.specs.Prelude.{◌≡◌, ◌++◌, ◌∷◌, [], IfOk, Ok, Err, map, string_bytes, codes};
+//! What a run replies to its words and its input.
+
+ghost use Rattle.std.specs.Prelude.{◌≡◌, [], IfOk, Ok, Err, map, string_bytes};
 ghost use Rattle.dh_parse.specs.SmallSpelling.{ParsesTo};
 ghost use Rattle.dh_parse.specs.SmallTerms.{IsSmall};
 ghost use Rattle.dh_syntax.specs.Expressions.Bridge.{term};
-ghost use Rattle.dh_syntax.specs.Command.Answer.{misused, unread, without_memory, line, encoded};
-ghost use Rattle.dh_syntax.specs.Command.FaultLines.{parse_fault_line, usage_line};
+ghost use Rattle.dh_syntax.specs.Command.Answer.{misused, unread, encoded};
 ghost use Rattle.dh_top.specs.Replies.{written, Encodes, Performs};
 ghost use Rattle.dh_top.specs.Runs.{Makes, reading};
-ghost use Rattle.dh_top.specs.Verbs.{asked};
 
 use crate::inputs::{InputFault, read_input};
 use crate::small_encoder::push_small;
-use crate::words::{Verb, read_words};
+use crate::words::read_words;
 use dh_parse::parse;
 use dh_ports::Feed;
-use dh_syntax::{Expr, ParseFault, Status};
+use dh_syntax::{Expr, ParseFault, Status, Verb};
 use std::alloc::{AllocError, Global};
 
 /// What is written to the two outputs, and the status.
@@ -24,18 +24,16 @@ pub(crate) struct Reply {
     pub status: Status,
 }
 
-/// The line of a fault of a text.
-fn fault_text(alloc: Global, fault: ParseFault) -> Result<String, AllocError>
-    ensures { IfOk result (λ s. string_bytes s ≡ line (parse_fault_line fault)) }
-{
-    match fault {
-        ParseFault::NotUtf8(at) => format!(in alloc; "not UTF-8 at {at}\n"),
-        ParseFault::Syntax(at) => format!(in alloc; "syntax at {at}\n"),
-        ParseFault::Wide(at) => format!(in alloc; "number too wide at {at}\n"),
-        ParseFault::Out(at) => format!(in alloc; "left out of this profile at {at}\n"),
-        ParseFault::TooLarge => String::from_str(alloc, "larger than 1048576 bytes\n"),
-        ParseFault::TooNested => String::from_str(alloc, "nested deeper than 500\n"),
-        ParseFault::Memory => String::from_str(alloc, "out of memory\n"),
+impl Reply {
+    /// The reply that says in one line why there is no answer.
+    fn refusal(alloc: Global, text: String, status: Status) -> Reply
+        ensures { written result ≡ record { out = []; err = string_bytes text; status = status } }
+    {
+        Reply {
+            out: Vec::new(alloc),
+            err: text.into_bytes(),
+            status,
+        }
     }
 }
 
@@ -44,11 +42,7 @@ fn misuse(alloc: Global, k: u32) -> Result<Reply, AllocError>
     ensures { IfOk result (λ r. written r ≡ misused k) }
 {
     let text = format!(in alloc; "usage: word {k}\n")?;
-    Ok(Reply {
-        out: Vec::new(alloc),
-        err: text.into_bytes(),
-        status: Status::Usage,
-    })
+    Ok(Reply::refusal(alloc, text, Status::Usage))
 }
 
 /// The reply of `encode` to an expression.
@@ -66,15 +60,11 @@ fn encoded_reply(alloc: Global, e: &Expr) -> Result<Reply, AllocError>
 }
 
 /// The reply to a text that spells no expression.
-fn refusal(alloc: Global, fault: ParseFault) -> Result<Reply, AllocError>
+fn misspelling(alloc: Global, fault: ParseFault) -> Result<Reply, AllocError>
     ensures { IfOk result (λ r. written r ≡ encoded (Err fault)) }
 {
-    let line = fault_text(alloc, fault)?;
-    Ok(Reply {
-        out: Vec::new(alloc),
-        err: line.into_bytes(),
-        status: Status::Text,
-    })
+    let text = format!(in alloc; "{fault}\n")?;
+    Ok(Reply::refusal(alloc, text, Status::Text))
 }
 
 /// The reply of `encode` to a text.
@@ -85,7 +75,7 @@ fn encoding(alloc: Global, text: &[u8]) -> Result<Reply, AllocError>
         Ok(e) => encoded_reply(alloc, &e),
         Err(fault) => match fault {
             ParseFault::Memory => Err(AllocError),
-            _ => refusal(alloc, fault),
+            _ => misspelling(alloc, fault),
         },
     }
 }
@@ -94,17 +84,13 @@ fn encoding(alloc: Global, text: &[u8]) -> Result<Reply, AllocError>
 fn unreadable(alloc: Global) -> Result<Reply, AllocError>
     ensures { IfOk result (λ r. written r ≡ unread) }
 {
-    let line = String::from_str(alloc, "read failed\n")?;
-    Ok(Reply {
-        out: Vec::new(alloc),
-        err: line.into_bytes(),
-        status: Status::Read,
-    })
+    let text = String::from_str(alloc, "read failed\n")?;
+    Ok(Reply::refusal(alloc, text, Status::Read))
 }
 
 /// Reads the input of a command, and replies to it.
 fn perform<I: Feed>(alloc: Global, verb: Verb, input: &mut I) -> Result<Reply, AllocError>
-    ensures { IfOk result (λ r. Performs ParsesTo (asked verb)
+    ensures { IfOk result (λ r. Performs ParsesTo verb
         (reading (I.left input.old) (I.left input.new) (I.faults input.old) (I.faults input.new)) (written r)) }
 {
     match read_input(alloc, input) {

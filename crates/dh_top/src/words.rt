@@ -1,16 +1,13 @@
-ghost use Rattle.std.specs.Prelude.{◌≡◌, Ok, Err, map, string_bytes, option_map, MatchResult};
-ghost use Rattle.dh_syntax.specs.Command.Words.{verb_of, command_of};
-ghost use Rattle.dh_top.specs.Verbs.{asked};
+//! The words of the command line.
 
-/// The commands.
-#[derive(Clone, Copy, Debug, PartialEq, Eq)]
-pub enum Verb {
-    Encode,
-}
+ghost use Rattle.std.specs.Prelude.{◌≡◌, Ok, Err, map, string_bytes, MatchResult};
+ghost use Rattle.dh_syntax.specs.Command.Words.{verb_of, command_of};
+
+use dh_syntax::Verb;
 
 /// The command that a word names.
 fn verb_named(word: &str) -> Option<Verb>
-    ensures { option_map asked result ≡ verb_of word.now }
+    ensures { result ≡ verb_of word.now }
 {
     if word == "encode" {
         Some(Verb::Encode)
@@ -23,7 +20,7 @@ fn verb_named(word: &str) -> Option<Verb>
 /// no prefix of a command line, and one more than their count where words are wanting.
 pub fn read_words(words: &[String]) -> Result<Verb, u32>
     ensures { MatchResult result
-        (λ verb. command_of (map string_bytes words.now) ≡ Ok (asked verb))
+        (λ verb. command_of (map string_bytes words.now) ≡ Ok verb)
         (λ k. command_of (map string_bytes words.now) ≡ Err k) }
 {
     let Some((word, rest)) = words.split_first() else {

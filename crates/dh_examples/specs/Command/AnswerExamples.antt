@@ -8,12 +8,13 @@ use Rattle.dh_syntax.specs.Command.Answer.{misused, unread, without_memory, enco
 use Rattle.dh_syntax.specs.Command.FaultLines.{parse_fault_line, usage_line, read_line, write_line, memory_line}
 use Rattle.dh_syntax.specs.Command.Statuses.{code_of}
 use Rattle.dh_syntax.specs.Expressions.Tree.{Node, end}
-use Rattle.dh_syntax.specs.Command.Words.{encode, command_of}
+use Rattle.dh_syntax.specs.Command.Words.{command_of}
+use Rattle.dh_syntax.specs.declared.verbs.Verb.TheVariants as verb
 
 no_words : command_of [] ≡ Err 1
 no_words = refl
 
-encode_alone : command_of (codes "encode" ∷ []) ≡ Ok encode
+encode_alone : command_of (codes "encode" ∷ []) ≡ Ok verb.Encode
 encode_alone = refl
 
 encode_and_more : command_of (codes "encode" ∷ codes "x" ∷ []) ≡ Err 2

@@ -6,7 +6,9 @@ use Rattle.dh_syntax.specs.declared.locations.Loc.TheVariants as locs
 use Rattle.dh_syntax.specs.declared.locations.Mode.TheVariants as modes
 use Rattle.dh_syntax.specs.declared.locations.Url.{Url}
 use Rattle.dh_syntax.specs.Expressions.Nesting.{nesting}
-use Rattle.dh_syntax.specs.Expressions.Spellable.{most_nesting, most_index, is_label, is_component, is_environment, is_segment, is_query, is_host, location_spellable, op_spellable, names_spellable}
+use Rattle.dh_syntax.specs.Expressions.Spellable.{is_label, is_component, is_environment, is_segment, is_query, is_host, location_spellable, op_spellable, names_spellable}
+use Rattle.dh_syntax.specs.Limits.{most_nesting}
+use Rattle.dh_syntax.specs.Limits.{most_index}
 use Rattle.dh_examples.specs.Vocabulary.{typed, untyped, var, x, x0}
 use Rattle.dh_syntax.specs.Expressions.Forms.{app, lambda, natural, some}
 use Rattle.dh_syntax.specs.Expressions.Tree.{Node, end, Name}

@@ -10,7 +10,8 @@ use Rattle.dh_syntax.specs.declared.tokens.Token.{Token}
 use Rattle.dh_syntax.specs.declared.tokens.TokenKind.TheVariants as kinds
 use Rattle.dh_syntax.specs.Text.Meaning.{meaning}
 use Rattle.dh_syntax.specs.Expressions.Nesting.{nesting}
-use Rattle.dh_syntax.specs.Text.Spelling.{most_bytes, IsText, IsToken, NestsTooDeep, ParsesTo}
+use Rattle.dh_syntax.specs.Text.Spelling.{IsText, IsToken, NestsTooDeep, ParsesTo}
+use Rattle.dh_syntax.specs.Limits.{most_bytes}
 use Rattle.dh_syntax.specs.Text.Yield.{Written}
 use lib.Utf8.{encode}
 

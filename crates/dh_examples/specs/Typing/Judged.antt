@@ -7,7 +7,7 @@ use Rattle.dh_syntax.specs.Expressions.Tree.{Term}
 
 -- in the empty context, with heights and depth enough for the examples
 abbrev pub inferred : ℕ → Term → Judgment Term
-inferred units e = infer 100 100 [] units e
+inferred units e = infer 100 1000 100 [] units e
 
 abbrev pub type_in : Judgment Term → Option Term
 type_in (Has t left) = Some t

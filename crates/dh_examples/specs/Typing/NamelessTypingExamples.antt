@@ -11,10 +11,10 @@ use Rattle.dh_examples.specs.Vocabulary.{a, assert, b, bool_type, equivalent, na
 use Rattle.dh_syntax.specs.Typing.Typing.{typing}
 
 abbrev core_inferred : ℕ → Term → Judgment Core
-core_inferred units e = judged_within cores 100 units (typing core_scopes 100 [] (to_core e))
+core_inferred units e = judged_within cores 100 1000 units (typing core_scopes 100 [] (to_core e))
 
 abbrev bare_inferred : ℕ → Term → Judgment Bare
-bare_inferred units e = judged_within bares 100 units (typing bare_scopes 100 [] (bare e))
+bare_inferred units e = judged_within bares 100 1000 units (typing bare_scopes 100 [] (bare e))
 
 -- `λ(x : Type) → λ(y : x) → λ(x : Bool) → y`: the domains (1 + 1 + 1) and the types (3 + 5 + 7)
 abbrev shadowed : Term

@@ -6,10 +6,11 @@ use Rattle.dh_syntax.specs.declared.operators.Builtin.TheVariants as builtins
 use Rattle.dh_syntax.specs.Names.Alpha.{alpha}
 use Rattle.dh_syntax.specs.Expressions.Forms.{forall, list_type, record_type, union}
 use Rattle.dh_syntax.specs.Typing.NamedTyping.{scopes}
-use Rattle.dh_syntax.specs.Expressions.Tree.{Term}
+use Rattle.dh_syntax.specs.Expressions.Tree.{Node, end, kid, Term}
 use Rattle.dh_syntax.specs.Typing.TypeRows.{type_row, type_op}
 use Rattle.dh_syntax.specs.Typing.TypeRules as rule
-use Rattle.dh_examples.specs.Vocabulary.{a, b, bool_type, equivalent, natural_type, one, two, type, typed, untyped, with_type, x, y}
+use Rattle.dh_syntax.specs.Typing.TypeRulesRecords.{joined}
+use Rattle.dh_examples.specs.Vocabulary.{a, b, c, bool_type, equivalent, natural_type, one, two, type, typed, untyped, with_type, x, y}
 use Rattle.dh_syntax.specs.Typing.TypeRuling.{Known, Typed, No}
 
 -- a part with a type in Type, one with a type in no universe, an annotation, and one without type
@@ -92,3 +93,10 @@ record_no_operator = refl
 
 record_rule : type_row scopes (ops.Record (a ∷ b ∷ [])) (value bool_type ∷ other type ∷ []) ≡ Some (Typed (record_type ((a, bool_type) ∷ (b, type) ∷ [])))
 record_rule = refl
+
+-- record types are joined where no part stands under a binder
+joined_types : joined (with_type a (with_type b bool_type)) (with_type a (with_type c natural_type)) ≡ Some (with_type a (record_type ((b, bool_type) ∷ (c, natural_type) ∷ [])))
+joined_types = refl
+
+joined_under_binder : joined (Node (ops.RecordType (a ∷ [])) (kid (Some x) bool_type end)) (with_type b natural_type) ≡ None
+joined_under_binder = refl

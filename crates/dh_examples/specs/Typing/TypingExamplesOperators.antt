@@ -194,7 +194,7 @@ optional_kind : refused (some kind) ≡ at_root 18
 optional_kind = refl
 
 -- a type that has no type itself is in no universe: `Some x` where x has the type y, which is not bound
-optional_of_ill : infer 100 100 ((x, var y 0) ∷ []) 0 (some (var x 0)) ≡ Ill [] rule.SomeNotInType
+optional_of_ill : infer 100 1000 100 ((x, var y 0) ∷ []) 0 (some (var x 0)) ≡ Ill [] rule.SomeNotInType
 optional_of_ill = refl
 
 -- ---- 46: texts

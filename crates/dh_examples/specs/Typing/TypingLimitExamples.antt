@@ -3,7 +3,8 @@ use Rattle.std.specs.Prelude.{◌≡◌, refl, ℕ, zero, suc, ◌-◌, ◌^◌,
 use Rattle.dh_syntax.specs.declared.operators.BinOp.TheVariants as bins
 use Rattle.dh_syntax.specs.Names.Alpha.{alpha}
 use Rattle.dh_syntax.specs.Expressions.Forms.{natural, operator, app, let_in, some, record_literal}
-use Rattle.dh_syntax.specs.Typing.Inference.{Gives, FromNormal, Aside, Has, Ill, IsWide, IsDeep, IsOver, IsShallow, judged, whole_purse}
+use Rattle.dh_syntax.specs.Typing.Inference.{Gives, FromNormal, Aside, Has, Ill, IsWide, IsDeep, IsOver, IsOverAside, IsShallow, judged}
+use Rattle.dh_syntax.specs.Limits.{purse_aside}
 use Rattle.dh_syntax.specs.Normalising.Named.{names}
 use Rattle.dh_syntax.specs.Typing.NamedTyping.{infer, plain_infer}
 use Rattle.dh_syntax.specs.Expressions.Nesting.{nesting}
@@ -39,8 +40,8 @@ not_over = refl
 
 -- ---- limits in a part, aside, and in the longer expression of a completion
 
--- the units of a purse
-purse : whole_purse ≡ 2 ^ 24
+-- the units of a typing aside
+purse : purse_aside ≡ 2 ^ 24
 purse = refl
 
 -- `let x = e in 1`
@@ -56,28 +57,31 @@ part_wide = refl
 part_over : inferred 0 (some (valued one)) ≡ IsOver
 part_over = refl
 
-part_deep : infer 1 100 [] 10 (some (valued (plus one one))) ≡ IsDeep
+part_deep : infer 1 1000 100 [] 10 (some (valued (plus one one))) ≡ IsDeep
 part_deep = refl
 
-part_shallow : infer 10 1 [] 10 (some one) ≡ IsShallow
+part_shallow : infer 10 1000 1 [] 10 (some one) ≡ IsShallow
 part_shallow = refl
 
 -- `Some x`, where to find the universe of x's type the type is typed: `let y = e in Natural`
 abbrev of_type : Term → Context Var Name
 of_type e = (x, let_in y e natural_type) ∷ []
 
-aside_wide : infer 100 100 (of_type too_wide) 0 (some (var x 0)) ≡ IsWide
+aside_wide : infer 100 1000 100 (of_type too_wide) 0 (some (var x 0)) ≡ IsWide
 aside_wide = refl
 
-aside_deep : infer 1 100 (of_type (plus one one)) 0 (some (var x 0)) ≡ IsDeep
+aside_deep : infer 1 1000 100 (of_type (plus one one)) 0 (some (var x 0)) ≡ IsDeep
 aside_deep = refl
 
-aside_shallow : infer 10 2 (of_type one) 0 (some (var x 0)) ≡ IsShallow
+aside_shallow : infer 10 1000 2 (of_type one) 0 (some (var x 0)) ≡ IsShallow
 aside_shallow = refl
 
--- with a purse of its own, of which nothing is left over
-aside_over : judged (plain_answer names nesting) 0 5 (Aside (FromNormal one (λ f. Gives f)) (λ t. Gives one)) ≡ IsOver
+-- with a purse of its own: where that is enough, no unit is paid
+aside_over : judged (plain_answer names nesting) 0 5 (Aside (FromNormal one (λ f. Gives f)) (λ t. Gives one)) ≡ IsOverAside
 aside_over = refl
+
+aside_of_aside_over : judged (plain_answer names nesting) 0 5 (Aside (Aside (FromNormal one (λ f. Gives f)) (λ t. Gives one)) (λ t. Gives one)) ≡ IsOverAside
+aside_of_aside_over = refl
 
 aside_free : judged (plain_answer names nesting) 5 0 (Aside (FromNormal one (λ f. Gives f)) (λ t. Gives one)) ≡ Has one 0
 aside_free = refl
@@ -100,15 +104,15 @@ completion_wide : inferred 100 (completion too_wide) ≡ IsWide
 unfolding alpha
 completion_wide = refl
 
-completion_deep : infer 2 100 [] 100 (completion (plus one one)) ≡ IsDeep
+completion_deep : infer 2 1000 100 [] 100 (completion (plus one one)) ≡ IsDeep
 unfolding alpha
 completion_deep = refl
 
-completion_shallow : infer 100 6 [] 100 (completion one) ≡ IsShallow
+completion_shallow : infer 100 1000 6 [] 100 (completion one) ≡ IsShallow
 unfolding alpha
 completion_shallow = refl
 
-completion_deep_enough : infer 100 7 [] 100 (completion one) ≡ Ill [] rule.CompletionHasNoType
+completion_deep_enough : infer 100 1000 7 [] 100 (completion one) ≡ Ill [] rule.CompletionHasNoType
 unfolding alpha
 completion_deep_enough = refl
 
@@ -123,32 +127,32 @@ abbrev calls : ℕ → Term
 calls zero = var y 0
 calls (suc n) = app (var x 0) (calls n)
 
-nested_500 : plain_infer 600 context 1501 (let_in (codes "z") (calls 500) one) ≡ Has natural_type 0
+nested_500 : plain_infer 1000 600 context 1501 (let_in (codes "z") (calls 500) one) ≡ Has natural_type 0
 unfolding alpha
 nested_500 = refl
 
-nested_501 : plain_infer 600 context 1504 (let_in (codes "z") (calls 501) one) ≡ IsDeep
+nested_501 : plain_infer 1000 600 context 1504 (let_in (codes "z") (calls 501) one) ≡ IsDeep
 unfolding alpha
 nested_501 = refl
 
-nested_501_over : plain_infer 600 context 1503 (let_in (codes "z") (calls 501) one) ≡ IsOver
+nested_501_over : plain_infer 1000 600 context 1503 (let_in (codes "z") (calls 501) one) ≡ IsOver
 unfolding alpha
 nested_501_over = refl
 
 -- without an end by height and nesting there is a type
-not_deep : infer 502 600 context 1504 (let_in (codes "z") (calls 501) one) ≡ Has natural_type 0
+not_deep : infer 502 1000 600 context 1504 (let_in (codes "z") (calls 501) one) ≡ Has natural_type 0
 unfolding alpha
 not_deep = refl
 
 -- with fewer heights than the normal form has, and with less depth than the expression has
-too_few_heights : infer 501 600 context 1504 (let_in (codes "z") (calls 501) one) ≡ IsDeep
+too_few_heights : infer 501 1000 600 context 1504 (let_in (codes "z") (calls 501) one) ≡ IsDeep
 unfolding alpha
 too_few_heights = refl
 
-too_shallow : infer 502 502 context 1504 (let_in (codes "z") (calls 501) one) ≡ IsShallow
+too_shallow : infer 502 1000 502 context 1504 (let_in (codes "z") (calls 501) one) ≡ IsShallow
 unfolding alpha
 too_shallow = refl
 
-deep_enough : infer 502 503 context 1504 (let_in (codes "z") (calls 501) one) ≡ Has natural_type 0
+deep_enough : infer 502 1000 503 context 1504 (let_in (codes "z") (calls 501) one) ≡ Has natural_type 0
 unfolding alpha
 deep_enough = refl

@@ -7,12 +7,8 @@ use Rattle.dh_syntax.specs.Bytes.BinaryHeads.{HeadFault, cut, indefinite, float,
 use Rattle.dh_syntax.specs.Bytes.BinaryItems.{Item, item_marks, at_start, after_marks, open_at, opens_at_most}
 use Rattle.dh_syntax.specs.Bytes.BinaryRead.{expression, Begins, Reads}
 use Rattle.dh_syntax.specs.Expressions.Nesting.{nesting}
-use Rattle.dh_syntax.specs.Expressions.Spellable.{most_nesting}
 use Rattle.dh_syntax.specs.Expressions.Tree.{Term}
-
--- the greatest number of arrays and maps that stand open: an expression that nests 500 deep has fewer
-abbrev pub most_open : ℕ
-most_open = 1100
+use Rattle.dh_syntax.specs.Limits.{most_nesting, most_open_items}
 
 -- Some item that begins with these heads is an expression, however deep it nests. Where `beyond` is set, numbers beyond
 -- their ranges are taken too.
@@ -32,7 +28,7 @@ pub record Reached (bytes : List ℕ) (ms : List Mark) (after : List ℕ) : Type
   pub begins : Begins bytes ms after
   pub sound : CanGoOn false ms
   pub unfinished : IsTrue (has_some (after_marks ms at_start))
-  pub within : IsTrue (opens_at_most most_open ms at_start)
+  pub within : IsTrue (opens_at_most most_open_items ms at_start)
 
 -- the next head cannot be read
 pub record HeadFails (bytes : List ℕ) (f : HeadFault) (at : ℕ) : Type 0 where
@@ -81,14 +77,14 @@ pub record OpensTooMany (bytes : List ℕ) : Type 0 where
   pub reached : Reached bytes ms after
   pub next : Begins after (mark ∷ []) rest
   pub sound : CanGoOn false (ms ++ mark ∷ [])
-  pub too_many : most_open < open_at mark (after_marks ms at_start)
+  pub too_many : most_open_items < open_at mark (after_marks ms at_start)
 
 -- a whole item stands first with no fault at any head, it is this expression, and these bytes come after it
 pub record Whole (bytes : List ℕ) (e : Term) (after : List ℕ) : Type 0 where
   pub item : Item
   pub begins : Begins bytes (item_marks item) after
   pub is_expression : expression false item ≡ Some e
-  pub within : IsTrue (opens_at_most most_open (item_marks item) at_start)
+  pub within : IsTrue (opens_at_most most_open_items (item_marks item) at_start)
 
 pub record BytesLeft (bytes : List ℕ) (at : ℕ) : Type 0 where
   pub e : Term

@@ -12,7 +12,8 @@ use Rattle.dh_syntax.specs.Bytes.BinaryHeads.{unsigned, negative, octets, charac
 use Rattle.dh_syntax.specs.Bytes.BinaryItems.{Item, single, array_of, tagged, Items, no_items, more_items}
 use Rattle.dh_syntax.specs.Expressions.Numbers.{bytes_eq}
 use Rattle.dh_syntax.specs.Expressions.Order.{before}
-use Rattle.dh_syntax.specs.Expressions.Spellable.{most_index, is_label, is_component, is_environment, is_segment, is_query, is_host}
+use Rattle.dh_syntax.specs.Expressions.Spellable.{is_label, is_component, is_environment, is_segment, is_query, is_host}
+use Rattle.dh_syntax.specs.Limits.{most_index}
 use Rattle.dh_syntax.specs.Expressions.Tree.{Name}
 
 -- what both steps give, where each gives something

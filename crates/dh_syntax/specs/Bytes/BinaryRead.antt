@@ -16,7 +16,7 @@ use Rattle.dh_syntax.specs.Bytes.BinaryLeaves.{◌>>=◌, is_null, unsigned_of, 
 use Rattle.dh_syntax.specs.Expressions.Builtins.{builtin_of}
 use Rattle.dh_syntax.specs.Expressions.Nesting.{nesting}
 use Rattle.dh_syntax.specs.Expressions.Operators.{op_code}
-use Rattle.dh_syntax.specs.Expressions.Spellable.{most_nesting}
+use Rattle.dh_syntax.specs.Limits.{most_nesting}
 use Rattle.dh_syntax.specs.Expressions.Tree.{Row, Leaf, Node, end, kid, Name, Var, Term}
 
 -- ---- the parts of an array

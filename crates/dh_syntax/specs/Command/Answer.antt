@@ -6,7 +6,8 @@ use Rattle.dh_syntax.specs.declared.statuses.Status.TheVariants as status
 use Rattle.dh_syntax.specs.Bytes.Binary.{enc}
 use Rattle.dh_syntax.specs.Command.FaultLines.{parse_fault_line, usage_line, read_line, memory_line}
 use Rattle.dh_syntax.specs.Expressions.Tree.{Term}
-use Rattle.dh_syntax.specs.Command.Words.{Word, encode, command_of}
+use Rattle.dh_syntax.specs.Command.Words.{Word, command_of}
+use Rattle.dh_syntax.specs.declared.verbs.Verb.TheVariants as verb
 
 -- the bytes to standard output, the bytes to standard error, and the status
 pub record Written : Type 0 where
@@ -42,4 +43,4 @@ encoded (Err f) = fault (parse_fault_line f) status.Text
 -- The answer to these words and this input. `Parses` says what a text is parsed to.
 pub data Answer (Parses : List ℕ → Result Term ParseFault → Type 0) (words : List Word) (input : List ℕ) (w : Written) : Type 0 where
   usage : (k : ℕ) → command_of words ≡ Err k → w ≡ misused k → Answer Parses words input w
-  encodes : (r : Result Term ParseFault) → command_of words ≡ Ok encode → Parses input r → w ≡ encoded r → Answer Parses words input w
+  encodes : (r : Result Term ParseFault) → command_of words ≡ Ok verb.Encode → Parses input r → w ≡ encoded r → Answer Parses words input w

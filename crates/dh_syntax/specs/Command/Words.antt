@@ -1,18 +1,20 @@
 -- The words of the command line, the program's name left out.
-use Rattle.std.specs.Prelude.{ℕ, if◌then◌else◌, List, [], ◌∷◌, Option, Some, None, Result, Ok, Err, codes}
+use Rattle.std.specs.Prelude.{ℕ, Bool, true, if◌then◌else◌, List, [], ◌∷◌, Option, Some, None, Result, Ok, Err, codes}
+use Rattle.dh_syntax.specs.declared.verbs.Verb.{Verb}
+use Rattle.dh_syntax.specs.declared.verbs.Verb.TheVariants as verb
 use Rattle.dh_syntax.specs.Expressions.Numbers.{bytes_eq}
 
 -- a word, as its bytes
 abbrev pub Word : Type 0
 Word = List ℕ
 
--- what a command line asks for
-pub data Verb : Type 0 where
-  encode : Verb
-
 -- the command that a word names
 abbrev pub verb_of : Word → Option Verb
-verb_of w = if bytes_eq w (codes "encode") then Some encode else None
+verb_of w = if bytes_eq w (codes "encode") then Some verb.Encode else None
+
+-- which commands read their input
+abbrev pub reads : Verb → Bool
+reads verb.Encode = true
 
 -- A command without operands.
 abbrev pub alone : Verb → List Word → Result Verb ℕ

@@ -12,14 +12,8 @@ use Rattle.dh_syntax.specs.Expressions.Arity.{IsWellFormed, has_some, alt_labels
 use Rattle.dh_syntax.specs.Text.Characters.{is_quoted_label_byte, is_quoted_path_byte, is_query_byte, is_quoted_environment_byte}
 use Rattle.dh_syntax.specs.Imports.Locations.{is_kept_in_url}
 use Rattle.dh_syntax.specs.Expressions.Nesting.{nesting}
+use Rattle.dh_syntax.specs.Limits.{most_nesting, most_index}
 use Rattle.dh_syntax.specs.Expressions.Tree.{Row, Leaf, Node, end, kid, Name, Var, Term}
-
--- the greatest nesting of an expression, and the greatest index of a variable
-abbrev pub most_nesting : ℕ
-most_nesting = 500
-
-abbrev pub most_index : ℕ
-most_index = 0x7FFF_FFFF
 
 -- a label, as it can stand between backticks (`quoted-label`)
 abbrev pub is_label : Name → Bool

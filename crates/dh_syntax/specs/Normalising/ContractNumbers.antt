@@ -2,7 +2,7 @@
 use Rattle.std.specs.Prelude.{ℕ, ◌+◌, ◌*◌}
 use Rattle.dh_syntax.specs.Normalising.Contraction.{Contraction, Gives, ◌or◌, when, from, on, within}
 use Rattle.dh_syntax.specs.Expressions.Forms as form
-use Rattle.dh_syntax.specs.Text.Numerals.{natural_fits}
+use Rattle.dh_syntax.specs.Limits.{natural_fits}
 use Rattle.dh_syntax.specs.Expressions.Tree.{Tree}
 use Rattle.dh_syntax.specs.Expressions.Views.{as_natural, is_literal}
 

@@ -1,14 +1,14 @@
 -- Names: "simple-label" and "quoted-label" of `dhall.abnf`, the keywords and the built-in names.
-use Rattle.std.specs.Prelude.{ℕ, ◌+◌, true, false, ◌&&◌, List, [], ◌∷◌, ◌++◌, Option, None, ◌==◌, if◌then◌else◌, take, drop, slice_index, codes, bytes_eq}
+use Rattle.std.specs.Prelude.{ℕ, ◌+◌, true, false, ◌&&◌, List, [], ◌∷◌, ◌++◌, Option, None, ◌==◌, if◌then◌else◌, take, drop, slice_index, codes, map, bytes_eq}
 use Rattle.std.specs.List.{prefix_len}
 use Rattle.std.specs.Str.{byte}
 use Rattle.dh_syntax.specs.declared.operators.Builtin.{Builtin}
-use Rattle.dh_syntax.specs.declared.operators.Builtin.TheVariants as builtins
 use Rattle.dh_syntax.specs.declared.tokens.Keyword.TheVariants as keywords
 use Rattle.dh_syntax.specs.declared.tokens.Mark.TheVariants as marks
 use Rattle.dh_syntax.specs.declared.tokens.TokenKind.TheVariants as kinds
 use Rattle.dh_syntax.specs.Text.Characters.{first, begins, is_name_start, is_name_byte, is_quoted_label_byte}
 use Rattle.dh_syntax.specs.Text.LexForms.{Found, Is, LeftOut, Form, form}
+use Rattle.dh_syntax.specs.Expressions.Builtins.{builtins}
 use Rattle.dh_syntax.specs.Expressions.Operators.{builtin_name}
 
 -- a whole name, and what it is
@@ -47,37 +47,7 @@ abbrev pub built_in_names : List Reserved
 built_in_names =
     reserved (codes "True") (Is (kinds.Bool true))
     ∷ reserved (codes "False") (Is (kinds.Bool false))
-    ∷ built_in builtins.TypeConst
-    ∷ built_in builtins.Kind
-    ∷ built_in builtins.Sort
-    ∷ built_in builtins.Bool
-    ∷ built_in builtins.Natural
-    ∷ built_in builtins.Integer
-    ∷ built_in builtins.Text
-    ∷ built_in builtins.List
-    ∷ built_in builtins.Optional
-    ∷ built_in builtins.None
-    ∷ built_in builtins.NaturalFold
-    ∷ built_in builtins.NaturalBuild
-    ∷ built_in builtins.NaturalIsZero
-    ∷ built_in builtins.NaturalEven
-    ∷ built_in builtins.NaturalOdd
-    ∷ built_in builtins.NaturalToInteger
-    ∷ built_in builtins.NaturalShow
-    ∷ built_in builtins.NaturalSubtract
-    ∷ built_in builtins.IntegerShow
-    ∷ built_in builtins.IntegerNegate
-    ∷ built_in builtins.IntegerClamp
-    ∷ built_in builtins.ListBuild
-    ∷ built_in builtins.ListFold
-    ∷ built_in builtins.ListLength
-    ∷ built_in builtins.ListHead
-    ∷ built_in builtins.ListLast
-    ∷ built_in builtins.ListIndexed
-    ∷ built_in builtins.ListReverse
-    ∷ built_in builtins.TextShow
-    ∷ built_in builtins.TextReplace
-    ∷ []
+    ∷ map built_in builtins
 
 -- the keywords and built-in names that are left out
 abbrev pub names_left_out : List Reserved

@@ -1,10 +1,11 @@
 -- Numbers as they are written: "natural-literal" and "integer-literal" of `dhall.abnf`, and the one spelling that is
 -- printed.
-use Rattle.std.specs.Prelude.{ℕ, suc, ◌+◌, ◌^◌, Bool, ◌&&◌, nat_lt, ◌==◌, if◌then◌else◌, List, ◌∷◌, length, drop, slice_index, Option, Some, None, ℤ, pos, negsuc, neg_ℤ, decimal}
+use Rattle.std.specs.Prelude.{ℕ, suc, ◌+◌, Bool, ◌&&◌, nat_lt, ◌==◌, if◌then◌else◌, List, ◌∷◌, length, drop, slice_index, Option, Some, None, ℤ, pos, negsuc, neg_ℤ, decimal}
 use Rattle.std.specs.Char.{is_ascii_digit, is_ascii_hexdigit}
 use Rattle.std.specs.List.{prefix_len}
 use Rattle.std.specs.Str.{byte}
 use Rattle.std.specs.Str.Parse.{digits_value}
+use Rattle.dh_syntax.specs.Limits.{natural_fits, integer_fits}
 use Rattle.dh_syntax.specs.Text.Characters.{first, begins, is_sign}
 
 -- how many bytes the longest natural at the front takes, 0 where there is none: `0x` and hexadecimal digits, or `0`, or
@@ -34,15 +35,6 @@ natural_value bs = if begins "0x" bs then digits_value 16 (drop 2 bs) else digit
 -- the number that an integer writes
 abbrev pub integer_value : List ℕ → ℤ
 integer_value bs = if first bs == byte "-" then neg_ℤ (pos (natural_value (drop 1 bs))) else pos (natural_value (drop 1 bs))
-
--- whether a natural is at most 2^128 - 1
-abbrev pub natural_fits : ℕ → Bool
-natural_fits n = nat_lt n (2 ^ 128)
-
--- whether an integer is at least -2^127 and at most 2^127 - 1
-abbrev pub integer_fits : ℤ → Bool
-integer_fits (pos n) = nat_lt n (2 ^ 127)
-integer_fits (negsuc n) = nat_lt n (2 ^ 127)
 
 -- the number that one natural writes, `None` where it is too wide
 abbrev pub read_natural : List ℕ → Option ℕ

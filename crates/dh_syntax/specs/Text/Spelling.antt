@@ -10,16 +10,10 @@ use Rattle.dh_syntax.specs.Text.Derived.{IsDerived}
 use Rattle.dh_syntax.specs.Text.Lexing.{Bad, Wide, Out, lex}
 use Rattle.dh_syntax.specs.Text.Meaning.{meaning}
 use Rattle.dh_syntax.specs.Expressions.Nesting.{nesting}
-use Rattle.dh_syntax.specs.Expressions.Spellable.{IsSpellable, most_nesting}
+use Rattle.dh_syntax.specs.Expressions.Spellable.{IsSpellable}
 use Rattle.dh_syntax.specs.Expressions.Tree.{Term}
+use Rattle.dh_syntax.specs.Limits.{most_bytes, most_open, most_nesting}
 use Rattle.dh_syntax.specs.Text.Yield.{Written, text_yield}
-
--- the greatest length of a text, and the greatest number of productions `expr` that stand open
-abbrev pub most_bytes : ℕ
-most_bytes = 1_048_576
-
-abbrev pub most_open : ℕ
-most_open = 500
 
 abbrev pub IsText : List ℕ → Type 0
 IsText bytes = (length bytes ≤ most_bytes) × IsUtf8 bytes

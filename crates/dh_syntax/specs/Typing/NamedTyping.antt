@@ -1,6 +1,7 @@
 -- Typing of expressions with names, and the faults that may be answered
 -- (the standard's "Type inference"; units, heights and limits are this project's own).
 use Rattle.std.specs.Prelude.{◌≡◌, ℕ, zero, suc, List, [], ◌∷◌, Option, Some, None, if◌then◌else◌, ⊤}
+use Rattle.dh_syntax.specs.declared.faults.NormFault.{NormFault}
 use Rattle.dh_syntax.specs.declared.faults.NormFault.TheVariants as limit
 use Rattle.dh_syntax.specs.declared.faults.TypeFault.{TypeFault}
 use Rattle.dh_syntax.specs.declared.faults.TypeFault.TheVariants as fault
@@ -41,21 +42,22 @@ scopes = record {
 
 -- ---- judgments
 
--- what typing comes to with so many heights for each normalising, so much depth and so many units
-abbrev pub infer : ℕ → ℕ → Context Var Name → ℕ → Term → Judgment Term
-infer heights depth context units e = judged_within names heights units (typing scopes depth context e)
+-- what typing comes to with so many heights for each normalising, such a purse for each typing aside, so much depth and
+-- so many units
+abbrev pub infer : ℕ → ℕ → ℕ → Context Var Name → ℕ → Term → Judgment Term
+infer heights purse depth context units e = judged_within names heights purse units (typing scopes depth context e)
 
 -- the same over the plain normaliser, which ends by height and nesting
-abbrev pub plain_infer : ℕ → Context Var Name → ℕ → Term → Judgment Term
-plain_infer depth context units e = plainly_judged names nesting units (typing scopes depth context e)
+abbrev pub plain_infer : ℕ → ℕ → Context Var Name → ℕ → Term → Judgment Term
+plain_infer purse depth context units e = plainly_judged names nesting purse units (typing scopes depth context e)
 
--- with so many units e comes to this judgment, where the heights and the depth suffice
+-- with so many units e comes to this judgment, where the heights, the purse and the depth suffice
 abbrev pub Infers : Context Var Name → ℕ → Term → Judgment Term → Type 0
 Infers context units e judgment = (depth : ℕ) × ComesTo names units (typing scopes depth context e) judgment
 
 -- the same over the plain normaliser
 abbrev pub PlainlyInfers : Context Var Name → ℕ → Term → Judgment Term → Type 0
-PlainlyInfers context units e judgment = (depth : ℕ) × (plain_infer depth context units e ≡ judgment)
+PlainlyInfers context units e judgment = (purse : ℕ) × (depth : ℕ) × (plain_infer purse depth context units e ≡ judgment)
 
 -- e has the type t, which n units suffice to find and no fewer
 abbrev pub HasType : Context Var Name → Term → Term → ℕ → Type 0
@@ -63,14 +65,19 @@ HasType context e t n = Infers context n e (Has t 0)
 
 -- ---- faults
 
--- with so many units the first place of e where no type can be derived is the path, by the rule with this number
-abbrev pub IsIll : Context Var Name → ℕ → Term → List ℕ → ℕ → Type 0
-IsIll context units e path number = (rule : Rule) × Infers context units e (Ill path rule) × (number ≡ rule_number rule)
+-- the first place of e where no type can be derived is the path, by the rule with this number; so it is with some number
+-- of units
+abbrev pub IsIll : Context Var Name → Term → List ℕ → ℕ → Type 0
+IsIll context e path number = (rule : Rule) × (units : ℕ) × Infers context units e (Ill path rule) × (number ≡ rule_number rule)
 
--- the fault may be answered for the typing of e with so many units
+-- the limit may be answered for the typing of e with so many units
+abbrev pub IsTypeLimit : Context Var Name → ℕ → Term → NormFault → Type 0
+IsTypeLimit context units e fault = (depth : ℕ) × IsLicensedIn names nesting units (typing scopes depth context e) fault
+
+-- the fault may be answered for the typing of e with so many units, of which only `Spent` speaks
 abbrev pub IsTypeFault : Context Var Name → ℕ → Term → TypeFault → Type 0
-IsTypeFault context units e (fault.Ill ill) = IsIll context units e ill.path ill.rule
-IsTypeFault context units e fault.Wide = (depth : ℕ) × IsLicensedIn names nesting units (typing scopes depth context e) limit.Wide
-IsTypeFault context units e fault.Spent = (depth : ℕ) × IsLicensedIn names nesting units (typing scopes depth context e) limit.Spent
-IsTypeFault context units e fault.Deep = (depth : ℕ) × IsLicensedIn names nesting units (typing scopes depth context e) limit.Deep
+IsTypeFault context units e (fault.Ill ill) = IsIll context e ill.path ill.rule
+IsTypeFault context units e fault.Wide = IsTypeLimit context units e limit.Wide
+IsTypeFault context units e fault.Spent = IsTypeLimit context units e limit.Spent
+IsTypeFault context units e fault.Deep = IsTypeLimit context units e limit.Deep
 IsTypeFault context units e fault.Memory = ⊤

@@ -49,8 +49,8 @@ module _ {A B : Type 0} where
     -- the fields with these labels and types, each joined with the one that has its label among the others
     pub joined_fields : Row A B → List Name → Fields A B → Option (Fields A B)
     joined_fields end xs gs = Some []
-    joined_fields (kid b t r) (x ∷ xs) gs = prepend_field x (joined_field (λ u. joined t u) t (field_at x gs)) (joined_fields r xs gs)
-    joined_fields (kid b t r) [] gs = None
+    joined_fields (kid None t r) (x ∷ xs) gs = prepend_field x (joined_field (λ u. joined t u) t (field_at x gs)) (joined_fields r xs gs)
+    joined_fields _ _ gs = None
 
   -- ---- the type with a path set
 

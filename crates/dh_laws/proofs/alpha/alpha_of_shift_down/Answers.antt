@@ -1,4 +1,4 @@
-use Rattle.dh_laws.proofs.AlphaMoves.{alpha-shift_down}
+use Rattle.dh_laws.proofs.Names.AlphaMoves.{alpha-shift_down}
 use Rattle.dh_laws.proofs.alpha.alpha_of_shift_down.Goals as goal
 
 pub returns : goal.returns

@@ -1,4 +1,4 @@
-use Rattle.dh_laws.proofs.AlphaForms.{alpha-alpha}
+use Rattle.dh_laws.proofs.Names.AlphaForms.{alpha-alpha}
 use Rattle.dh_laws.proofs.alpha.alpha_once.Goals as goal
 
 pub returns : goal.returns

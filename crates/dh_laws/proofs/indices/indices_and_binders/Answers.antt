@@ -1,4 +1,4 @@
-use Rattle.dh_laws.proofs.FreeIndices.{indices-free, free-indices}
+use Rattle.dh_laws.proofs.Names.FreeIndices.{indices-free, free-indices}
 use Rattle.dh_laws.proofs.indices.indices_and_binders.Goals as goal
 
 pub returns-clause-at_first : goal.returns-clause-at_first

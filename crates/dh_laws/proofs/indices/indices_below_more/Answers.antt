@@ -1,4 +1,4 @@
-use Rattle.dh_laws.proofs.FreeIndices.{free-more}
+use Rattle.dh_laws.proofs.Names.FreeIndices.{free-more}
 use Rattle.dh_laws.proofs.indices.indices_below_more.Goals as goal
 
 pub returns : goal.returns

@@ -1,4 +1,4 @@
-use Rattle.dh_laws.proofs.FreeIndices.{free-put_under}
+use Rattle.dh_laws.proofs.Names.FreeIndices.{free-put_under}
 use Rattle.dh_laws.proofs.indices.indices_put_under.Goals as goal
 
 pub returns : goal.returns

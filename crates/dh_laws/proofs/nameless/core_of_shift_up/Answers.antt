@@ -1,4 +1,4 @@
-use Rattle.dh_laws.proofs.Cores.{core-shift_up_one}
+use Rattle.dh_laws.proofs.Names.Cores.{core-shift_up_one}
 use Rattle.dh_laws.proofs.nameless.core_of_shift_up.Goals as goal
 
 pub returns : goal.returns

@@ -1,5 +1,5 @@
-use Rattle.dh_laws.proofs.Cores.{core-subst}
-use Rattle.dh_laws.proofs.FreeShifts.{at_place-substitutes}
+use Rattle.dh_laws.proofs.Names.Cores.{core-subst}
+use Rattle.dh_laws.proofs.Names.FreeShifts.{at_place-substitutes}
 use Rattle.dh_syntax.specs.Names.Nameless.{at_place, core_below}
 use Rattle.dh_laws.proofs.nameless.core_of_subst.Goals as goal
 

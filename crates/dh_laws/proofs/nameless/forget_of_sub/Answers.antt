@@ -1,4 +1,4 @@
-use Rattle.dh_laws.proofs.Renamings.{forget-sub}
+use Rattle.dh_laws.proofs.Names.Renamings.{forget-sub}
 use Rattle.dh_laws.proofs.nameless.forget_of_sub.Goals as goal
 
 pub returns : goal.returns

@@ -1,5 +1,5 @@
 use Rattle.std.specs.Prelude.{[]}
-use Rattle.dh_laws.proofs.Cores.{term_below-core_below}
+use Rattle.dh_laws.proofs.Names.Cores.{term_below-core_below}
 use Rattle.dh_laws.proofs.nameless.reading_back.Goals as goal
 
 pub returns-clause-whole : goal.returns-clause-whole

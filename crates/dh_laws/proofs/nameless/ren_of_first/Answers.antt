@@ -1,4 +1,4 @@
-use Rattle.dh_laws.proofs.Contractions.{ren-first}
+use Rattle.dh_laws.proofs.Contracting.Contractions.{ren-first}
 use Rattle.dh_laws.proofs.nameless.ren_of_first.Goals as goal
 
 pub returns-clause-with_names : goal.returns-clause-with_names

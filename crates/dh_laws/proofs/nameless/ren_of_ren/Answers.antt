@@ -1,4 +1,4 @@
-use Rattle.dh_laws.proofs.Renamings.{ren-ren}
+use Rattle.dh_laws.proofs.Names.Renamings.{ren-ren}
 use Rattle.dh_laws.proofs.nameless.ren_of_ren.Goals as goal
 
 pub returns-clause-with_names : goal.returns-clause-with_names

@@ -1,4 +1,4 @@
-use Rattle.dh_laws.proofs.AlphaForms.{same-bare, bare-same}
+use Rattle.dh_laws.proofs.Names.AlphaForms.{same-bare, bare-same}
 use Rattle.dh_laws.proofs.nameless.same_is_bare.Goals as goal
 
 pub returns : goal.returns

@@ -1,4 +1,4 @@
-use Rattle.dh_laws.proofs.Contractions.{sub-first}
+use Rattle.dh_laws.proofs.Contracting.Contractions.{sub-first}
 use Rattle.dh_laws.proofs.nameless.sub_of_first.Goals as goal
 
 pub returns-clause-with_names : goal.returns-clause-with_names

@@ -1,4 +1,4 @@
-use Rattle.dh_laws.proofs.Renamings.{sub-Bound}
+use Rattle.dh_laws.proofs.Names.Renamings.{sub-Bound}
 use Rattle.dh_laws.proofs.nameless.sub_of_variables.Goals as goal
 
 pub returns-clause-with_names : goal.returns-clause-with_names

@@ -1,4 +1,4 @@
-use Rattle.dh_laws.proofs.NamelessAnswers.{core_runs, bare_runs}
+use Rattle.dh_laws.proofs.Normalising.NamelessAnswers.{core_runs, bare_runs}
 use Rattle.dh_laws.proofs.nameless_runs.runs_of_nameless.Goals as goal
 
 pub returns-clause-with_names : goal.returns-clause-with_names

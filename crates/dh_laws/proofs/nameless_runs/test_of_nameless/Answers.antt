@@ -1,4 +1,4 @@
-use Rattle.dh_laws.proofs.NamelessTests.{core_test, bare_test}
+use Rattle.dh_laws.proofs.Normalising.NamelessTests.{core_test, bare_test}
 use Rattle.dh_laws.proofs.nameless_runs.test_of_nameless.Goals as goal
 
 pub returns-clause-with_names : goal.returns-clause-with_names

@@ -1,4 +1,4 @@
-use Rattle.dh_laws.proofs.RunCosts.{cost_of_run, whole_cost_of_run}
+use Rattle.dh_laws.proofs.Normalising.RunCosts.{cost_of_run, whole_cost_of_run}
 use Rattle.dh_laws.proofs.runs.cost_of_run.Goals as goal
 
 pub returns-clause-plain : goal.returns-clause-plain

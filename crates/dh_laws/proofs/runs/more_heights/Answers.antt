@@ -1,4 +1,4 @@
-use Rattle.dh_laws.proofs.RunLimits.{more_heights}
+use Rattle.dh_laws.proofs.Normalising.RunLimits.{more_heights}
 use Rattle.dh_laws.proofs.runs.more_heights.Goals as goal
 
 pub returns-clause-named : goal.returns-clause-named

@@ -1,4 +1,4 @@
-use Rattle.dh_laws.proofs.RunLimits.{more_units}
+use Rattle.dh_laws.proofs.Normalising.RunLimits.{more_units}
 use Rattle.dh_laws.proofs.runs.more_units.Goals as goal
 
 pub returns-clause-named : goal.returns-clause-named

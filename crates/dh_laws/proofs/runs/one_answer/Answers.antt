@@ -1,4 +1,4 @@
-use Rattle.dh_laws.proofs.RunLimits.{one_answer}
+use Rattle.dh_laws.proofs.Normalising.RunLimits.{one_answer}
 use Rattle.dh_laws.proofs.runs.one_answer.Goals as goal
 
 pub returns : goal.returns

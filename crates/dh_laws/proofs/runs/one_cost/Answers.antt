@@ -1,4 +1,4 @@
-use Rattle.dh_laws.proofs.RunLimits.{one_whole_cost, one_cost}
+use Rattle.dh_laws.proofs.Normalising.RunLimits.{one_whole_cost, one_cost}
 use Rattle.dh_laws.proofs.runs.one_cost.Goals as goal
 
 pub returns-clause-whole : goal.returns-clause-whole

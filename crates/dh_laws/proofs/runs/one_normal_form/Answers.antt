@@ -1,4 +1,4 @@
-use Rattle.dh_laws.proofs.RunLimits.{one_normal_form, equivalent_by_normal_forms}
+use Rattle.dh_laws.proofs.Normalising.RunLimits.{one_normal_form, equivalent_by_normal_forms}
 use Rattle.dh_laws.proofs.runs.one_normal_form.Goals as goal
 
 pub returns-clause-one : goal.returns-clause-one

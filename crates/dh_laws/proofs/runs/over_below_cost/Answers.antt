@@ -1,4 +1,4 @@
-use Rattle.dh_laws.proofs.RunCosts.{over_below_cost, over_below_whole_cost}
+use Rattle.dh_laws.proofs.Normalising.RunCosts.{over_below_cost, over_below_whole_cost}
 use Rattle.dh_laws.proofs.runs.over_below_cost.Goals as goal
 
 pub returns-clause-plain : goal.returns-clause-plain

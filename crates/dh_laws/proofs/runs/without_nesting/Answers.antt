@@ -1,4 +1,4 @@
-use Rattle.dh_laws.proofs.RunLimits.{without_nesting}
+use Rattle.dh_laws.proofs.Normalising.RunLimits.{without_nesting}
 use Rattle.dh_laws.proofs.runs.without_nesting.Goals as goal
 
 pub returns-clause-named : goal.returns-clause-named

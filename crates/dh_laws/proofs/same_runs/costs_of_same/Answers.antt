@@ -1,4 +1,4 @@
-use Rattle.dh_laws.proofs.NamedAnswers.{same_whole_cost, same_cost}
+use Rattle.dh_laws.proofs.Normalising.NamedAnswers.{same_whole_cost, same_cost}
 use Rattle.dh_laws.proofs.same_runs.costs_of_same.Goals as goal
 
 pub returns-clause-whole : goal.returns-clause-whole

@@ -1,4 +1,4 @@
-use Rattle.dh_laws.proofs.NamedAnswers.{same_normal_forms, same_is_equivalent}
+use Rattle.dh_laws.proofs.Normalising.NamedAnswers.{same_normal_forms, same_is_equivalent}
 use Rattle.dh_laws.proofs.same_runs.normal_forms_of_same.Goals as goal
 
 pub returns-clause-normal_form : goal.returns-clause-normal_form

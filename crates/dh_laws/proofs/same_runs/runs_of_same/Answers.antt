@@ -1,4 +1,4 @@
-use Rattle.dh_laws.proofs.NamedAnswers.{same_runs, same_endless_runs, same_plain_answers}
+use Rattle.dh_laws.proofs.Normalising.NamedAnswers.{same_runs, same_endless_runs, same_plain_answers}
 use Rattle.dh_laws.proofs.same_runs.runs_of_same.Goals as goal
 
 pub returns-clause-with_nesting : goal.returns-clause-with_nesting

@@ -1,4 +1,4 @@
-use Rattle.dh_laws.proofs.Shifts.{down-up}
+use Rattle.dh_laws.proofs.Names.Shifts.{down-up}
 use Rattle.dh_laws.proofs.shifting.down_undoes_up.Goals as goal
 
 pub returns : goal.returns

@@ -1,4 +1,4 @@
-use Rattle.dh_laws.proofs.ShiftPairs.{up-exchanged}
+use Rattle.dh_laws.proofs.Names.ShiftPairs.{up-exchanged}
 use Rattle.dh_laws.proofs.shifting.shifts_exchange.Goals as goal
 
 pub returns : goal.returns

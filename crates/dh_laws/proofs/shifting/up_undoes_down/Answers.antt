@@ -1,4 +1,4 @@
-use Rattle.dh_laws.proofs.Shifts.{up-down}
+use Rattle.dh_laws.proofs.Names.Shifts.{up-down}
 use Rattle.dh_laws.proofs.shifting.up_undoes_down.Goals as goal
 
 pub returns : goal.returns

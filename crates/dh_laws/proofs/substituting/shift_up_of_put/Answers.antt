@@ -1,4 +1,4 @@
-use Rattle.dh_laws.proofs.Contractions.{shift_up-put}
+use Rattle.dh_laws.proofs.Contracting.Contractions.{shift_up-put}
 use Rattle.dh_laws.proofs.substituting.shift_up_of_put.Goals as goal
 
 pub returns : goal.returns

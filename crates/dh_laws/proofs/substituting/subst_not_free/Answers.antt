@@ -1,4 +1,4 @@
-use Rattle.dh_laws.proofs.Shifts.{subst-not_free}
+use Rattle.dh_laws.proofs.Names.Shifts.{subst-not_free}
 use Rattle.dh_laws.proofs.substituting.subst_not_free.Goals as goal
 
 pub returns : goal.returns

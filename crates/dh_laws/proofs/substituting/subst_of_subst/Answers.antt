@@ -1,4 +1,4 @@
-use Rattle.dh_laws.proofs.SubstPairs.{subst-subst}
+use Rattle.dh_laws.proofs.Names.SubstPairs.{subst-subst}
 use Rattle.dh_laws.proofs.substituting.subst_of_subst.Goals as goal
 
 pub returns : goal.returns

@@ -7,4 +7,4 @@ pub returns-in-Ok : goal.returns-in-Ok
 returns-in-Ok c = encodes_any c.encoded_reply.result c.args.text.now (Ok (term c.in-Ok.e)) c.in-Ok.ensures.spelled c.encoded_reply.ensures
 
 pub returns-in_default : goal.returns-in_default
-returns-in_default c = encodes_any c.refusal.result c.args.text.now (Err c.in-Err.fault) (c.in-Err.ensures.refused c.in_default.not-Memory) c.refusal.ensures
+returns-in_default c = encodes_any c.misspelling.result c.args.text.now (Err c.in-Err.fault) (c.in-Err.ensures.refused c.in_default.not-Memory) c.misspelling.ensures

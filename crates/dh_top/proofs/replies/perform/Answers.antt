@@ -1,6 +1,5 @@
 use Rattle.std.proofs.Common.{refl, ◌∙◌, ap, Err}
 use Rattle.dh_top.specs.Runs.{most_read}
-use Rattle.dh_top.specs.Verbs.{asked}
 use Rattle.dh_top.proofs.Encodings.{performs_command, performs_unread}
 use Rattle.dh_top.proofs.replies.perform.Goals as goal
 
@@ -10,4 +9,4 @@ returns-in-Ok g c =
 
 pub returns-in-Err-Failed : goal.returns-in-Err-Failed
 returns-in-Err-Failed g c =
-    performs_unread (asked c.args.verb) _ c.unreadable.result (c.read_input.ensures.failed (c.in-Err-Failed.is ∙ ap Err c.in-Err-Failed.field-0-is)) c.unreadable.ensures
+    performs_unread c.args.verb _ c.unreadable.result (c.read_input.ensures.failed (c.in-Err-Failed.is ∙ ap Err c.in-Err-Failed.field-0-is)) c.unreadable.ensures

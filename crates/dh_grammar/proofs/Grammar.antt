@@ -1,0 +1,11 @@
+pub mod Completeness
+pub mod Joining
+pub mod Leading
+pub mod MachineLaws
+pub mod Outcomes
+pub mod Parts
+pub mod Progress
+pub mod ReadLists
+pub mod ReadTokens
+pub mod Soundness
+pub mod Within

@@ -1,0 +1,10 @@
+pub mod Answering
+pub mod Deep
+pub mod Ending
+pub mod OneOutcome
+pub mod Parsing
+pub mod ReadingSteps
+pub mod Spelled
+pub mod Unique
+pub mod WithOffsets
+pub mod WithStretches

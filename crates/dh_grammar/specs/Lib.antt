@@ -1,0 +1,12 @@
+pub mod Depths
+pub mod Inside
+pub mod Laws
+pub mod Machine
+pub mod Making
+pub mod Parsed
+pub mod Picks
+pub mod Placing
+pub mod Reading
+pub mod Running
+pub mod Stubs
+pub mod Trees

@@ -1,0 +1,10 @@
+pub mod AlphaForms
+pub mod AlphaMoves
+pub mod Cores
+pub mod FreeIndices
+pub mod FreeShifts
+pub mod Occurrences
+pub mod Renamings
+pub mod ShiftPairs
+pub mod Shifts
+pub mod SubstPairs

@@ -1,0 +1,22 @@
+//! The commands of the command line.
+
+ghost use Rattle.std.specs.Prelude.{◌≡◌};
+ghost use Rattle.dh_syntax.specs.Command.Words.{reads};
+
+/// What a command line asks for.
+#[derive(Clone, Copy, Debug, PartialEq, Eq)]
+pub enum Verb {
+    /// The binary form of the expression that the input spells.
+    Encode,
+}
+
+impl Verb {
+    /// Whether the command reads its input.
+    pub fn reads(self) -> bool
+        ensures { result ≡ reads self }
+    {
+        match self {
+            Verb::Encode => true,
+        }
+    }
+}

@@ -1,0 +1,5 @@
+pub mod Judgments
+pub mod JudgmentsCost
+pub mod JudgmentsLag
+pub mod JudgmentsLimits
+pub mod JudgmentsSteady

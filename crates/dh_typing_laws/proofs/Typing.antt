@@ -1,0 +1,15 @@
+pub mod KeptTypings
+pub mod OneTyping
+pub mod TypingContract
+pub mod TypingContractExamples
+pub mod TypingKeeping
+pub mod TypingLaws
+pub mod TypingsDeeper
+pub mod TypingsKept
+pub mod TypingsKeptAnswers
+pub mod TypingsKeptDeeper
+pub mod TypingsKeptExamples
+pub mod TypingsMoved
+pub mod TypingsNamed
+pub mod TypingsRenamed
+pub mod Weakenings

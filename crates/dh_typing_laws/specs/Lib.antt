@@ -1,0 +1,3 @@
+pub mod Judgments
+pub mod KeptTypes
+pub mod NamelessTyping
