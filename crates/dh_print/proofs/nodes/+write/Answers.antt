@@ -123,7 +123,7 @@ write_node-returns-in_ok-write_parts-in-Project t c =
 pub write_operation-returns : goal.write_operation-returns
 write_operation-returns t c =
     appended _ _ _ _ _
-    (operation_parts c.args.operator c.left_level.result c.operator_level-right.result c.mark.result.now (row_of c.args.kids.now) c.left_level.ensures c.operator_level-right.ensures c.mark.ensures
+    (operation_parts c.args.operator c.left_level.result c.level-right.result c.mark.result.now (row_of c.args.kids.now) c.left_level.ensures c.level-right.ensures c.mark.ensures
     (row_length-row_of c.args.kids.now ∙ c.requires.count))
     c.write_parts.ensures
 
