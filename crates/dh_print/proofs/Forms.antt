@@ -176,8 +176,8 @@ operation_parts o m n mark r left right is two =
     let next : n + 1 ≡ suc (level_of o) = omega arith in
     let claim : ℕ → ℕ → List ℕ → Type 0 = λ (j k : ℕ) (t : List ℕ). parts_text (([], j) ∷ (t, k) ∷ []) r ≡ operation_text o r in
     subst (λ j. claim j (n + 1) mark) (sym left) (subst (λ k. claim (left_level o) k mark) (sym next) (subst (λ t. claim (left_level o) (suc (level_of o)) t) (sym is)
-     (any_two (λ s. parts_text (([], left_level o) ∷ (mark_between o, suc (level_of o)) ∷ []) s ≡ operation_text o s)
-      (λ b e c f. glue_two [] (at (left_level o) (layout e)) (mark_between o) (at (suc (level_of o)) (layout f))) r two)))
+    (any_two (λ s. parts_text (([], left_level o) ∷ (mark_between o, suc (level_of o)) ∷ []) s ≡ operation_text o s)
+    (λ b e c f. glue_two [] (at (left_level o) (layout e)) (mark_between o) (at (suc (level_of o)) (layout f))) r two)))
 
 pub with_text : (path : List Name) (r : Row Var Name) → fits (ops.With path) r ≡ true → update_text path r ≡ (node (ops.With path) (layouts r)).text
 with_text path r h = two_parts (λ s. update_text path s ≡ (node (ops.With path) (layouts s)).text) (λ e v. refl) r (and_parts (has_some path) (plain 2 r) h).1

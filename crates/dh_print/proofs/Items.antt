@@ -59,7 +59,7 @@ parts_step forms ks i d k text new whole in_forms in_kids kid_is so_far pushed =
     let f = get_or forms i d in
     carried text new (f.0.now ++ at f.1 (layout (term k.body))) _ _ whole so_far
     (ap (λ fs. parts_text (map form_of fs) (row_of (drop i ks))) (drop_more forms i d in_forms)
-     ∙ ap (λ r. parts_text (form_of f ∷ map form_of (drop (i + 1) forms)) r) (row_of-drop_item ks i k in_kids kid_is))
+    ∙ ap (λ r. parts_text (form_of f ∷ map form_of (drop (i + 1) forms)) r) (row_of-drop_item ks i k in_kids kid_is))
     pushed
 
 parts_none : (fs : List (List ℕ × ℕ)) → parts_text fs end ≡ []
@@ -127,12 +127,12 @@ field_step labels ks i x k mark first next text text1 text2 new whole in_labels 
     let part = at 0 (layout (term k.body)) in
     carried text2 new (mark ++ part) _ later whole
     (carried text1 text2 (label x) _ ((mark ++ part) ++ later) whole
-     (carried text text1 first _ (label x ++ ((mark ++ part) ++ later)) whole so_far
-      (ap (λ xs. led first next (fields mark xs (texts (layouts (row_of (drop i ks)))))) (drop_item labels i x in_labels label_is)
-       ∙ ap (λ ts. led first next (fields mark (x ∷ drop (i + 1) labels) ts)) (texts_item ks i k in_kids kid_is)
-       ∙ regroup first (label x) mark part later)
-      one)
-     refl two)
+    (carried text text1 first _ (label x ++ ((mark ++ part) ++ later)) whole so_far
+    (ap (λ xs. led first next (fields mark xs (texts (layouts (row_of (drop i ks)))))) (drop_item labels i x in_labels label_is)
+    ∙ ap (λ ts. led first next (fields mark (x ∷ drop (i + 1) labels) ts)) (texts_item ks i k in_kids kid_is)
+    ∙ regroup first (label x) mark part later)
+    one)
+    refl two)
     refl three
   where
     regroup : (first l m p later : List ℕ) → first ++ ((l ++ m ++ p) ++ later) ≡ first ++ (l ++ ((m ++ p) ++ later))
@@ -174,10 +174,10 @@ alternative_step alts ks i j j' a first next text text1 new whole h e t same so_
     let later : ℕ → List ℕ = λ (k : ℕ). led next next (alternatives (drop (i + 1) alts) (texts (layouts (row_of (drop k ks))))) in
     ap (λ k. new ++ later k) same
     ∙ carried text1 new (label a.label) _ (later j) whole
-      (carried text text1 first _ (label a.label ++ later j) whole so_far
-       (ap (led first next) (plain_row (drop i alts) a (drop (i + 1) alts) (texts (layouts (row_of (drop j ks)))) (drop_item alts i a h e) t))
-       one)
-      refl two
+    (carried text text1 first _ (label a.label ++ later j) whole so_far
+    (ap (led first next) (plain_row (drop i alts) a (drop (i + 1) alts) (texts (layouts (row_of (drop j ks)))) (drop_item alts i a h e) t))
+    one)
+    refl two
 
 pub typed_step : (alts : List Alt) (ks : List Kid) (i j j' : ℕ) (a : Alt) (k : Kid) (first next text text1 text2 new whole : List ℕ) →
     i < length alts → a ≡ get_or alts i a → a.typed ≡ true → j < length ks → k ≡ get_or ks j k → j' ≡ j + 1 →
@@ -189,14 +189,14 @@ typed_step alts ks i j j' a k first next text text1 text2 new whole h e t in_kid
     let part = at 0 (layout (term k.body)) in
     ap (λ n. new ++ later n) same
     ∙ carried text2 new (codes " : " ++ part) _ (later (j + 1)) whole
-      (carried text1 text2 (label a.label) _ ((codes " : " ++ part) ++ later (j + 1)) whole
-       (carried text text1 first _ (label a.label ++ ((codes " : " ++ part) ++ later (j + 1))) whole so_far
-        (ap (λ ts. led first next (alternatives (drop i alts) ts)) (texts_item ks j k in_kids kid_is)
-         ∙ ap (led first next) (typed_row (drop i alts) a (drop (i + 1) alts) part (texts (layouts (row_of (drop (j + 1) ks)))) (drop_item alts i a h e) t)
-         ∙ regroup first (label a.label) (codes " : ") part (later (j + 1)))
-        one)
-       refl two)
-      refl (three ∙ ap (λ (d : Kid). text2 ++ (codes " : " ++ at 0 (layout (term d.body)))) (sym kid_is))
+    (carried text1 text2 (label a.label) _ ((codes " : " ++ part) ++ later (j + 1)) whole
+    (carried text text1 first _ (label a.label ++ ((codes " : " ++ part) ++ later (j + 1))) whole so_far
+    (ap (λ ts. led first next (alternatives (drop i alts) ts)) (texts_item ks j k in_kids kid_is)
+    ∙ ap (led first next) (typed_row (drop i alts) a (drop (i + 1) alts) part (texts (layouts (row_of (drop (j + 1) ks)))) (drop_item alts i a h e) t)
+    ∙ regroup first (label a.label) (codes " : ") part (later (j + 1)))
+    one)
+    refl two)
+    refl (three ∙ ap (λ (d : Kid). text2 ++ (codes " : " ++ at 0 (layout (term d.body)))) (sym kid_is))
   where
     regroup : (first l m p later : List ℕ) → first ++ ((l ++ m ++ p) ++ later) ≡ first ++ (l ++ ((m ++ p) ++ later))
     regroup first l m p later = simp append_assoc
@@ -240,12 +240,12 @@ piece_step pieces ks i k q text text1 text2 new whole in_kids kid_is in_pieces p
     let part = at 0 (layout (term k.body)) in
     carried text2 new (escape q) _ later whole
     (carried text1 text2 (codes "}") _ (escape q ++ later) whole
-     (carried text text1 (codes "${" ++ part) _ (codes "}" ++ (escape q ++ later)) whole so_far
-      (ap (λ ps. interpolated_later ps (texts (layouts (row_of (drop i ks))))) (drop_item pieces (i + 1) q in_pieces piece_is)
-       ∙ ap (interpolated_later (q ∷ drop (i + 1 + 1) pieces)) (texts_item ks i k in_kids kid_is)
-       ∙ regroup (codes "${") part (codes "}") (escape q) later)
-      one)
-     refl two)
+    (carried text text1 (codes "${" ++ part) _ (codes "}" ++ (escape q ++ later)) whole so_far
+    (ap (λ ps. interpolated_later ps (texts (layouts (row_of (drop i ks))))) (drop_item pieces (i + 1) q in_pieces piece_is)
+    ∙ ap (interpolated_later (q ∷ drop (i + 1 + 1) pieces)) (texts_item ks i k in_kids kid_is)
+    ∙ regroup (codes "${") part (codes "}") (escape q) later)
+    one)
+    refl two)
     refl three
   where
     regroup : (o t c q later : List ℕ) → o ++ t ++ c ++ q ++ later ≡ (o ++ t) ++ (c ++ (q ++ later))

@@ -2,27 +2,26 @@
 ghost use Rattle.std.specs.Prelude.{◌≡◌};
 ghost use Rattle.dh_syntax.specs.Expressions.Arity.{IsWellFormed, AreWellFormed};
 ghost use Rattle.dh_syntax.specs.Expressions.Bridge.{term, row_of};
-ghost use Rattle.dh_syntax.specs.Expressions.Levels.{level_of, left_level};
 ghost use Rattle.dh_syntax.specs.Text.Printed.{layout};
 ghost use Rattle.dh_print.specs.Inside.Levels.{level_by_op, is_bare_op, IsLevelBeforeAnnotation};
 
-use dh_syntax::{BinOp, Expr, Kid, Op};
+use dh_syntax::{Expr, Kid, Op};
 
 /// Where any expression may stand.
-pub const ANY: u8 = 0;
+pub const ANY: u32 = 0;
 /// Where any operator may stand, and no form that runs on to the right.
-pub const OPERATOR: u8 = 1;
+pub const OPERATOR: u32 = 1;
 /// Where an application may stand.
-pub const APPLICATION: u8 = 14;
+pub const APPLICATION: u32 = 14;
 /// Where an import or a completion may stand.
-pub const IMPORT: u8 = 15;
+pub const IMPORT: u32 = 15;
 /// Where a selection may stand.
-pub const SELECTION: u8 = 16;
+pub const SELECTION: u32 = 16;
 /// Where only a primitive may stand.
-pub const PRIMITIVE: u8 = 17;
+pub const PRIMITIVE: u32 = 17;
 
 /// The level of an expression.
-pub fn level(e: &Expr) -> u8
+pub fn level(e: &Expr) -> u32
     requires { IsWellFormed (term e.now) }
     ensures { result ≡ (layout (term e.now)).level }
 {
@@ -34,7 +33,7 @@ pub fn level(e: &Expr) -> u8
 
 /// The level at which the first part of an annotation is needed. A `merge` or a `toMap` without annotation would take
 /// this one for its own.
-pub fn level_before_annotation(kids: &[Kid]) -> u8
+pub fn level_before_annotation(kids: &[Kid]) -> u32
     requires { AreWellFormed (row_of kids.now) }
     ensures { IsLevelBeforeAnnotation result (row_of kids.now) }
 {
@@ -62,7 +61,7 @@ fn is_bare(e: &Expr) -> bool
 }
 
 /// The level of a node that has its parts.
-fn op_level(op: &Op) -> u8
+fn op_level(op: &Op) -> u32
     ensures { result ≡ level_by_op op.now }
 {
     match op {
@@ -71,7 +70,7 @@ fn op_level(op: &Op) -> u8
         Op::Field(_) | Op::Project(_) | Op::ProjectType => SELECTION,
         Op::Import(_) => IMPORT,
         Op::App | Op::Some | Op::Merge(false) | Op::ToMap(false) => APPLICATION,
-        Op::Bin(operator) => operator_level(*operator),
+        Op::Bin(operator) => operator.level(),
         Op::Lam | Op::Pi | Op::Let(_) | Op::If | Op::EmptyList | Op::Merge(true) => ANY,
         Op::Assert | Op::Annot | Op::ToMap(true) | Op::With(_) => ANY,
     }
@@ -81,36 +80,4 @@ fn is_bare_op(op: &Op) -> bool
     ensures { result ≡ is_bare_op op.now }
 {
     matches!(op, Op::Merge(false) | Op::ToMap(false))
-}
-
-/// The level of an operator. Its right part is needed at the next one.
-pub fn operator_level(operator: BinOp) -> u8
-    ensures { result ≡ level_of operator }
-{
-    match operator {
-        BinOp::Equivalent => 1,
-        BinOp::Fallback => 2,
-        BinOp::Or => 3,
-        BinOp::Plus => 4,
-        BinOp::TextAppend => 5,
-        BinOp::ListAppend => 6,
-        BinOp::And => 7,
-        BinOp::Combine => 8,
-        BinOp::Prefer => 9,
-        BinOp::CombineTypes => 10,
-        BinOp::Times => 11,
-        BinOp::Equal => 12,
-        BinOp::NotEqual => 13,
-        BinOp::Complete => IMPORT,
-    }
-}
-
-/// The level at which the left part of an operator is needed.
-pub fn left_level(operator: BinOp) -> u8
-    ensures { result ≡ left_level operator }
-{
-    match operator {
-        BinOp::Complete => SELECTION,
-        _ => operator_level(operator),
-    }
 }

@@ -18,3 +18,6 @@ mod printing;
 mod words;
 
 pub use printing::print;
+
+#[cfg(test)]
+mod tests;

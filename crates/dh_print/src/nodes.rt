@@ -9,17 +9,16 @@ use crate::binders::{binds_blank, write_binder};
 use crate::imports::write_import;
 use crate::labels::{write_label, write_labels, write_projection, write_selected, write_variable};
 use crate::levels::{
-    ANY, APPLICATION, IMPORT, OPERATOR, SELECTION, left_level, level, level_before_annotation,
-    operator_level,
+    ANY, APPLICATION, IMPORT, OPERATOR, SELECTION, level, level_before_annotation,
 };
-use crate::words::{builtin_name, mark, truth};
+use crate::words::{mark, truth};
 use dh_literals::{push_escaped, push_integer, push_natural};
 use dh_syntax::{Alt, BinOp, Expr, Kid, Label, Op, Piece};
 use std::alloc::AllocError;
 
 /// A text, and after it an expression, in brackets where its level is below the one that is needed.
 #[cycle(write)]
-pub fn write_part(text: &mut String, before: &str, needed: u8, e: &Expr) -> Result<(), AllocError>
+pub fn write_part(text: &mut String, before: &str, needed: u32, e: &Expr) -> Result<(), AllocError>
     requires { IsWellFormed (term e.now) }
     ensures { OnOk result (string_bytes text.new
         ≡ string_bytes text.old ++ (before.now ++ at needed (layout (term e.now)))) }
@@ -55,7 +54,7 @@ fn write_node(text: &mut String, op: &Op, kids: &[Kid]) -> Result<(), AllocError
         ≡ string_bytes text.old ++ (node op.now (layouts (row_of kids.now))).text) }
 {
     match op {
-        Op::Builtin(builtin) => text.push_str(builtin_name(*builtin)),
+        Op::Builtin(builtin) => text.push_str(builtin.name()),
         Op::Bool(value) => text.push_str(truth(*value)),
         Op::Nat(n) => push_natural(text, *n),
         Op::Int(n) => push_integer(text, *n),
@@ -79,13 +78,21 @@ fn write_node(text: &mut String, op: &Op, kids: &[Kid]) -> Result<(), AllocError
             write_parts(text, &[(" : ", ANY), (" = ", ANY), (" in ", ANY)], kids)
         }
         Op::App => write_parts(text, &[("", APPLICATION), (" ", IMPORT)], kids),
-        Op::If => write_parts(text, &[("if ", ANY), (" then ", ANY), (" else ", ANY)], kids),
+        Op::If => write_parts(
+            text,
+            &[("if ", ANY), (" then ", ANY), (" else ", ANY)],
+            kids,
+        ),
         Op::Bin(operator) => write_operation(text, *operator, kids),
         Op::EmptyList => write_parts(text, &[("[] : ", ANY)], kids),
         Op::List => write_list(text, kids),
         Op::Some => write_parts(text, &[("Some ", IMPORT)], kids),
         Op::Merge(false) => write_parts(text, &[("merge ", IMPORT), (" ", IMPORT)], kids),
-        Op::Merge(true) => write_parts(text, &[("merge ", IMPORT), (" ", IMPORT), (" : ", ANY)], kids),
+        Op::Merge(true) => write_parts(
+            text,
+            &[("merge ", IMPORT), (" ", IMPORT), (" : ", ANY)],
+            kids,
+        ),
         Op::RecordType(labels) => write_fields(text, "{}", " : ", labels.as_slice(), kids),
         Op::Record(labels) => write_fields(text, "{=}", " = ", labels.as_slice(), kids),
         Op::Field(label) => {
@@ -102,7 +109,11 @@ fn write_node(text: &mut String, op: &Op, kids: &[Kid]) -> Result<(), AllocError
         }
         Op::Union(alts) => write_union(text, alts.as_slice(), kids),
         Op::Assert => write_parts(text, &[("assert : ", ANY)], kids),
-        Op::Annot => write_parts(text, &[("", level_before_annotation(kids)), (" : ", ANY)], kids),
+        Op::Annot => write_parts(
+            text,
+            &[("", level_before_annotation(kids)), (" : ", ANY)],
+            kids,
+        ),
         Op::ToMap(false) => write_parts(text, &[("toMap ", IMPORT)], kids),
         Op::ToMap(true) => write_parts(text, &[("toMap ", IMPORT), (" : ", ANY)], kids),
         Op::With(path) => write_update(text, path.as_slice(), kids),
@@ -111,7 +122,7 @@ fn write_node(text: &mut String, op: &Op, kids: &[Kid]) -> Result<(), AllocError
 
 /// The parts of a node, each after its text and at its level.
 #[cycle(write)]
-fn write_parts(text: &mut String, forms: &[(&str, u8)], kids: &[Kid]) -> Result<(), AllocError>
+fn write_parts(text: &mut String, forms: &[(&str, u32)], kids: &[Kid]) -> Result<(), AllocError>
     requires count { length forms.now ≡ length kids.now }
     requires parts { AreWellFormed (row_of kids.now) }
     ensures { OnOk result (string_bytes text.new
@@ -132,8 +143,12 @@ fn write_operation(text: &mut String, operator: BinOp, kids: &[Kid]) -> Result<(
     ensures { OnOk result (string_bytes text.new
         ≡ string_bytes text.old ++ operation_text operator (row_of kids.now)) }
 {
-    let right = operator_level(operator) + 1;
-    write_parts(text, &[("", left_level(operator)), (mark(operator), right)], kids)
+    let right = operator.level() + 1;
+    write_parts(
+        text,
+        &[("", operator.left_level()), (mark(operator), right)],
+        kids,
+    )
 }
 
 /// The elements of a list in their brackets.
@@ -154,7 +169,13 @@ fn write_list(text: &mut String, kids: &[Kid]) -> Result<(), AllocError>
 
 /// The labels of a record or of a record type, each with its part, in their braces.
 #[cycle(write)]
-fn write_fields(text: &mut String, empty: &str, mark: &str, labels: &[Label], kids: &[Kid]) -> Result<(), AllocError>
+fn write_fields(
+    text: &mut String,
+    empty: &str,
+    mark: &str,
+    labels: &[Label],
+    kids: &[Kid],
+) -> Result<(), AllocError>
     requires count { length labels.now ≡ length kids.now }
     requires parts { AreWellFormed (row_of kids.now) }
     ensures { OnOk result (string_bytes text.new

@@ -5,7 +5,7 @@ use Rattle.dh_print.proofs.Items.{labels_step, labels_end, led-separated}
 use Rattle.dh_print.proofs.labels.write_labels.Goals as goal
 
 pub loop-name-init : goal.loop-name-init
-loop-name-init c = record { utf8 = IsUtf8-nil; so_far = ap (λ l. string_bytes c.args.text.now ++ l) (led-separated c.args.between.now (map label c.args.labels.now)); }
+loop-name-init c = record { utf8 = IsUtf8-nil; so_far = ap (λ l. string_bytes c.args.text.now ++ l) (led-separated c.args.between.now (map label c.args.labels.now)) }
 
 pub loop-name-preserved : goal.loop-name-preserved
 loop-name-preserved c = record {

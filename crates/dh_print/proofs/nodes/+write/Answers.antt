@@ -18,7 +18,7 @@ use Rattle.dh_print.proofs.nodes.+write.Goals as goal
 use Rattle.dh_print.proofs.nodes.+write.Goals.{write_union-then-alt+in_ok-write_part, write_union-else-alt}
 
 pub write_whole-write_node-requires : goal.write_whole-write_node-requires
-write_whole-write_node-requires t c = 
+write_whole-write_node-requires t c =
     let parts = parts_of c.args.e.now c.in-Node.op c.in-Node.kids c.as_slice.result.now c.in-Node.is c.as_slice.ensures c.requires in
     (search (rules, the_lemmas), (parts.0, parts.1))
 
@@ -26,7 +26,7 @@ pub write_whole-returns-in-Var : goal.write_whole-returns-in-Var
 write_whole-returns-in-Var t c = appended _ _ _ _ _ (sym (at_term-Var text_of c.args.e.now c.in-Var.name c.in-Var.index c.in-Var.is)) c.write_variable.ensures
 
 pub write_whole-returns-in-Node : goal.write_whole-returns-in-Node
-write_whole-returns-in-Node t c = 
+write_whole-returns-in-Node t c =
     appended _ _ _ _ _ (ap (λ ks. (node c.in-Node.op (layouts (row_of ks))).text) c.as_slice.ensures ∙ sym (at_term-Node text_of c.args.e.now c.in-Node.op c.in-Node.kids c.in-Node.is)) c.write_node.ensures
 
 pub write_node-write_parts-requires : goal.write_node-write_parts-requires
@@ -117,14 +117,14 @@ pub write_node-returns-in_ok-write_parts-in-Project : goal.write_node-returns-in
 write_node-returns-in_ok-write_parts-in-Project t c =
     appended_twice c.write_projection.result _ _ _ _ _ _
     (ap (λ xs. parts_text (([], 16) ∷ []) (row_of c.args.kids.now) ++ (codes "." ++ projection_text xs)) c.as_slice-in-Project.ensures
-     ∙ node_of c.args.op.now (ops.Project c.in-Project.labels) (row_of c.args.kids.now) _ c.in-Project.is (project_text c.in-Project.labels (row_of c.args.kids.now)) c.requires.fits)
+    ∙ node_of c.args.op.now (ops.Project c.in-Project.labels) (row_of c.args.kids.now) _ c.in-Project.is (project_text c.in-Project.labels (row_of c.args.kids.now)) c.requires.fits)
     c.in_ok-write_parts-in-Project.ensures c.write_projection.ensures
 
 pub write_operation-returns : goal.write_operation-returns
-write_operation-returns t c = 
+write_operation-returns t c =
     appended _ _ _ _ _
-    (operation_parts c.args.operator c.left_level.result c.operator_level-right.result c.mark.result.now (row_of c.args.kids.now) c.left_level.ensures c.operator_level-right.ensures c.mark.ensures
-     (row_length-row_of c.args.kids.now ∙ c.requires.count))
+    (operation_parts c.args.operator c.left_level.result c.level-right.result c.mark.result.now (row_of c.args.kids.now) c.left_level.ensures c.level-right.ensures c.mark.ensures
+    (row_length-row_of c.args.kids.now ∙ c.requires.count))
     c.write_parts.ensures
 
 pub write_parts-loop-i-init : goal.write_parts-loop-i-init
@@ -143,31 +143,31 @@ pub write_parts-returns : goal.write_parts-returns
 write_parts-returns t c = parts_end c.args.forms.now c.args.kids.now c.loop-i.i _ _ c.loop-i-test.false c.loop-i.invariant
 
 pub write_list-loop-kid-init : goal.write_list-loop-kid-init
-write_list-loop-kid-init t c = record { utf8 = IsUtf8-nil; so_far = row_begins _ _ (codes "[ ") (codes ", ") _ c.in_ok-push_str.ensures.bytes; }
+write_list-loop-kid-init t c = record { utf8 = IsUtf8-nil; so_far = row_begins _ _ (codes "[ ") (codes ", ") _ c.in_ok-push_str.ensures.bytes }
 
 pub write_list-write_part-requires : goal.write_list-write_part-requires
 write_list-write_part-requires t c = (search (rules, the_lemmas), item_well_formed c.args.kids.now c.loop-kid.kid-index c.kid-item.result c.loop-kid-test.true c.kid-item.is c.requires)
 
 pub write_list-loop-kid-preserved : goal.write_list-loop-kid-preserved
-write_list-loop-kid-preserved t c = 
+write_list-loop-kid-preserved t c =
     record {
       utf8 = comma_is_utf8;
       so_far = list_step c.args.kids.now c.loop-kid.kid-index c.kid-item.result c.loop-kid.before.now (codes ", ") _ _ _ c.loop-kid-test.true c.kid-item.is c.loop-kid.invariant.so_far c.in_ok-write_part.ensures;
     }
 
 pub write_list-returns : goal.write_list-returns
-write_list-returns t c = 
+write_list-returns t c =
     on_ok c.push_str-2.result _ (string_bytes c.loop-kid.text) _ (codes " ]") c.push_str-2.ensures.bytes
     (λ pushed. row_ends c.loop-kid.before.now (codes ", ") _ _ _ (codes "[ ") _ _ (codes " ]") (texts_end c.args.kids.now c.loop-kid.kid-index c.loop-kid-test.false) c.loop-kid.invariant.so_far pushed)
 
 pub write_fields-loop-i-init : goal.write_fields-loop-i-init
-write_fields-loop-i-init t c = record { utf8 = IsUtf8-nil; so_far = row_begins _ _ (codes "{ ") (codes ", ") _ c.in_ok-push_str.ensures.bytes; }
+write_fields-loop-i-init t c = record { utf8 = IsUtf8-nil; so_far = row_begins _ _ (codes "{ ") (codes ", ") _ c.in_ok-push_str.ensures.bytes }
 
 pub write_fields-write_part-requires : goal.write_fields-write_part-requires
 write_fields-write_part-requires t c = (search (rules, the_lemmas), item_well_formed c.args.kids.now c.loop-i.i c.index-kids-i.result c.loop-i-test.true c.index-kids-i.is c.requires.1.1.1)
 
 pub write_fields-loop-i-preserved : goal.write_fields-loop-i-preserved
-write_fields-loop-i-preserved t c = 
+write_fields-loop-i-preserved t c =
     let in_labels : c.loop-i.i < length c.args.labels.now = omega arith in
     record {
       utf8 = comma_is_utf8;
@@ -177,14 +177,14 @@ write_fields-loop-i-preserved t c =
     }
 
 pub write_fields-returns : goal.write_fields-returns
-write_fields-returns t c = 
+write_fields-returns t c =
     on_ok c.push_str-3.result _ (string_bytes c.loop-i.text) _ (codes " }") c.push_str-3.ensures.bytes
     (λ pushed.
-         row_ends c.loop-i.before.now (codes ", ") _ _ _ (codes "{ ") _ _ (codes " }") (fields_end c.args.labels.now c.args.kids.now c.loop-i.i c.args.mark.now c.loop-i-test.false) c.loop-i.invariant.so_far pushed
-         ∙ ap (λ l. string_bytes c.args.text.now ++ l) (fields_some c.args.empty.now c.args.mark.now c.args.labels.now (texts (layouts (row_of c.args.kids.now))) (sym c.is_empty.ensures ∙ c.if-is_empty.false)))
+    row_ends c.loop-i.before.now (codes ", ") _ _ _ (codes "{ ") _ _ (codes " }") (fields_end c.args.labels.now c.args.kids.now c.loop-i.i c.args.mark.now c.loop-i-test.false) c.loop-i.invariant.so_far pushed
+    ∙ ap (λ l. string_bytes c.args.text.now ++ l) (fields_some c.args.empty.now c.args.mark.now c.args.labels.now (texts (layouts (row_of c.args.kids.now))) (sym c.is_empty.ensures ∙ c.if-is_empty.false)))
 
 pub write_union-loop-alt-init : goal.write_union-loop-alt-init
-write_union-loop-alt-init t c = record { utf8 = IsUtf8-nil; count = zero-add _ ∙ c.requires.count; so_far = row_begins _ _ (codes "< ") (codes " | ") _ c.in_ok-push_str.ensures.bytes; }
+write_union-loop-alt-init t c = record { utf8 = IsUtf8-nil; count = zero-add _ ∙ c.requires.count; so_far = row_begins _ _ (codes "< ") (codes " | ") _ c.in_ok-push_str.ensures.bytes }
 
 pub write_union-offset_bounds-kids-typed : goal.write_union-offset_bounds-kids-typed
 write_union-offset_bounds-kids-typed t c = let more = typed_more c.args.alts.now c.loop-alt.alt-index c.alt-item.result c.loop-alt-test.true c.alt-item.is c.if-alt.true in omega (arith, c.loop-alt.invariant.count)
@@ -193,7 +193,7 @@ pub write_union-bounds-kids-typed : goal.write_union-bounds-kids-typed
 write_union-bounds-kids-typed t c = let more = typed_more c.args.alts.now c.loop-alt.alt-index c.alt-item.result c.loop-alt-test.true c.alt-item.is c.if-alt.true in omega (arith, c.loop-alt.invariant.count)
 
 pub write_union-write_part-requires : goal.write_union-write_part-requires
-write_union-write_part-requires t c = 
+write_union-write_part-requires t c =
     let more = typed_more c.args.alts.now c.loop-alt.alt-index c.alt-item.result c.loop-alt-test.true c.alt-item.is c.if-alt.true in
     let within : c.loop-alt.typed < length c.args.kids.now = omega (arith, c.loop-alt.invariant.count) in
     (search (rules, the_lemmas), item_at_well_formed c.args.kids.now c.loop-alt.typed c.index-kids-typed.result within c.requires.parts)
@@ -207,34 +207,34 @@ write_union-overflow_add-typed t c =
 pub write_union-loop-alt-preserved : goal.write_union-loop-alt-preserved
 write_union-loop-alt-preserved t c =
     elim c.if-alt.branch [
-    | write_union-then-alt+in_ok-write_part w ↦
-        let more = typed_more c.args.alts.now c.loop-alt.alt-index c.alt-item.result c.loop-alt-test.true c.alt-item.is w.if-alt.true in
-        let within : c.loop-alt.typed < length c.args.kids.now = omega (arith, c.loop-alt.invariant.count) in
-        record {
-          utf8 = bar_is_utf8;
-          count = omega (arith, c.loop-alt.invariant.count, w.typed-is);
-          so_far =
-              typed_step c.args.alts.now c.args.kids.now c.loop-alt.alt-index c.loop-alt.typed c.if-alt.typed c.alt-item.result w.index-kids-typed.result c.loop-alt.before.now (codes " | ") _ _ _ _ _
-              c.loop-alt-test.true c.alt-item.is w.if-alt.true within w.index-kids-typed.is w.typed-is c.loop-alt.invariant.so_far c.in_ok-push_str-2.ensures.bytes c.in_ok-write_label.ensures
-              (ap string_bytes w.text-is ∙ w.in_ok-write_part.ensures);
-        }
-    | write_union-else-alt w ↦
-        let more = plain_more c.args.alts.now c.loop-alt.alt-index c.alt-item.result c.loop-alt-test.true c.alt-item.is w.if-alt.false in
-        record {
-          utf8 = bar_is_utf8;
-          count = omega (arith, c.loop-alt.invariant.count, w.typed-is);
-          so_far =
-              alternative_step c.args.alts.now c.args.kids.now c.loop-alt.alt-index c.loop-alt.typed c.if-alt.typed c.alt-item.result c.loop-alt.before.now (codes " | ") _ _ _ _
-              c.loop-alt-test.true c.alt-item.is w.if-alt.false w.typed-is c.loop-alt.invariant.so_far c.in_ok-push_str-2.ensures.bytes (ap string_bytes w.text-is ∙ c.in_ok-write_label.ensures);
-        }
+      | write_union-then-alt+in_ok-write_part w ↦
+          let more = typed_more c.args.alts.now c.loop-alt.alt-index c.alt-item.result c.loop-alt-test.true c.alt-item.is w.if-alt.true in
+          let within : c.loop-alt.typed < length c.args.kids.now = omega (arith, c.loop-alt.invariant.count) in
+          record {
+            utf8 = bar_is_utf8;
+            count = omega (arith, c.loop-alt.invariant.count, w.typed-is);
+            so_far =
+                typed_step c.args.alts.now c.args.kids.now c.loop-alt.alt-index c.loop-alt.typed c.if-alt.typed c.alt-item.result w.index-kids-typed.result c.loop-alt.before.now (codes " | ") _ _ _ _ _
+                c.loop-alt-test.true c.alt-item.is w.if-alt.true within w.index-kids-typed.is w.typed-is c.loop-alt.invariant.so_far c.in_ok-push_str-2.ensures.bytes c.in_ok-write_label.ensures
+                (ap string_bytes w.text-is ∙ w.in_ok-write_part.ensures);
+          }
+      | write_union-else-alt w ↦
+          let more = plain_more c.args.alts.now c.loop-alt.alt-index c.alt-item.result c.loop-alt-test.true c.alt-item.is w.if-alt.false in
+          record {
+            utf8 = bar_is_utf8;
+            count = omega (arith, c.loop-alt.invariant.count, w.typed-is);
+            so_far =
+                alternative_step c.args.alts.now c.args.kids.now c.loop-alt.alt-index c.loop-alt.typed c.if-alt.typed c.alt-item.result c.loop-alt.before.now (codes " | ") _ _ _ _
+                c.loop-alt-test.true c.alt-item.is w.if-alt.false w.typed-is c.loop-alt.invariant.so_far c.in_ok-push_str-2.ensures.bytes (ap string_bytes w.text-is ∙ c.in_ok-write_label.ensures);
+          }
     ]
 
 pub write_union-returns : goal.write_union-returns
-write_union-returns t c = 
+write_union-returns t c =
     on_ok c.push_str-3.result _ (string_bytes c.loop-alt.text) _ (codes " >") c.push_str-3.ensures.bytes
     (λ pushed.
-         row_ends c.loop-alt.before.now (codes " | ") _ _ _ (codes "< ") _ _ (codes " >") (alternatives_end c.args.alts.now c.loop-alt.alt-index _ c.loop-alt-test.false) c.loop-alt.invariant.so_far pushed
-         ∙ ap (λ l. string_bytes c.args.text.now ++ l) (some_alternatives c.args.alts.now (texts (layouts (row_of c.args.kids.now))) (sym c.is_empty.ensures ∙ c.if-is_empty.false)))
+    row_ends c.loop-alt.before.now (codes " | ") _ _ _ (codes "< ") _ _ (codes " >") (alternatives_end c.args.alts.now c.loop-alt.alt-index _ c.loop-alt-test.false) c.loop-alt.invariant.so_far pushed
+    ∙ ap (λ l. string_bytes c.args.text.now ++ l) (some_alternatives c.args.alts.now (texts (layouts (row_of c.args.kids.now))) (sym c.is_empty.ensures ∙ c.if-is_empty.false)))
 
 pub write_text-loop-i-init : goal.write_text-loop-i-init
 write_text-loop-i-init t c =
@@ -245,23 +245,23 @@ pub write_text-write_part-requires : goal.write_text-write_part-requires
 write_text-write_part-requires t c = (search (rules, the_lemmas), item_well_formed c.args.kids.now c.loop-i.i c.index-kids-i.result c.loop-i-test.true c.index-kids-i.is c.requires.parts)
 
 pub write_text-loop-i-preserved : goal.write_text-loop-i-preserved
-write_text-loop-i-preserved t c = 
+write_text-loop-i-preserved t c =
     let in_pieces : c.loop-i.i + 1 < length c.args.pieces.now = omega arith in
     piece_step c.args.pieces.now c.args.kids.now c.loop-i.i c.index-kids-i.result c.index-pieces-i.result _ _ _ _ _ c.loop-i-test.true c.index-kids-i.is in_pieces c.index-pieces-i.is
     c.loop-i.invariant c.in_ok-write_part.ensures c.in_ok-push_str-2.ensures.bytes c.in_ok-push_escaped-2.ensures
 
 pub write_text-returns : goal.write_text-returns
-write_text-returns t c = 
+write_text-returns t c =
     on_ok c.push_str-2.result _ (string_bytes c.loop-i.text) _ (codes "\"") c.push_str-2.ensures.bytes
     (λ pushed. closed _ _ _ (codes "\"") _ _ (codes "\"") (pieces_end c.args.pieces.now c.args.kids.now c.loop-i.i c.loop-i-test.false) c.loop-i.invariant pushed)
 
 pub write_update-write_part-requires : goal.write_update-write_part-requires
-write_update-write_part-requires t c = 
+write_update-write_part-requires t c =
     let within : 0 < length c.args.kids.now = omega arith in
     (search (rules, the_lemmas), item_at_well_formed c.args.kids.now 0 c.index-kids-0.result within c.requires.parts)
 
 pub write_update-write_part-requires-2 : goal.write_update-write_part-requires-2
-write_update-write_part-requires-2 t c = 
+write_update-write_part-requires-2 t c =
     let within : 1 < length c.args.kids.now = omega arith in
     (search (rules, the_lemmas), item_at_well_formed c.args.kids.now 1 c.index-kids-1.result within c.requires.parts)
 
