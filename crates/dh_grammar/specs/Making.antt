@@ -1,5 +1,5 @@
 -- What the machine is given: the types of its parts, and what is made of them.
-use Rattle.std.specs.Prelude.{ℕ, ℤ, Bool, List, Option, Some, None}
+use Rattle.std.specs.Prelude.{ℕ, ℤ, Bool, List, Option, Some, None, []}
 use Rattle.dh_syntax.specs.declared.locations.Digest.{Digest}
 use Rattle.dh_syntax.specs.declared.locations.Mode.{Mode}
 use Rattle.dh_syntax.specs.declared.operators.BinOp.{BinOp}
@@ -72,3 +72,8 @@ pub record Making (K : Sorts) : Type 0 where
 abbrev pub option_map : {A B : Type 0} → (A → B) → Option A → Option B
 option_map f None = None
 option_map f (Some a) = Some (f a)
+
+-- those so far
+abbrev pub so_far : {X : Type 0} → Option (List X) → List X
+so_far None = []
+so_far (Some xs) = xs

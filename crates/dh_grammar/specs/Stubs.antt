@@ -10,7 +10,7 @@ use Rattle.dh_syntax.specs.declared.expressions.Alt.{Alt}
 use Rattle.dh_syntax.specs.Limits.{most_nesting}
 use Rattle.dh_syntax.specs.Expressions.Tree.{Row, Node, end, kid, Name, Var, Term}
 use Rattle.dh_grammar.specs.Making.{Sorts, Making}
-use Rattle.dh_grammar.specs.Inside.Terms.{and_part, so_far}
+use Rattle.dh_grammar.specs.Making.{so_far}
 
 -- an expression and how deep it nests; a stub where that is more than 500
 pub record Part : Type 0 where
@@ -73,6 +73,11 @@ around (b ∷ bs) e = let_part b.name b.annotation b.value (around bs e)
 abbrev pub quantifier_of : Bool → Op
 quantifier_of true = ops.Lam
 quantifier_of false = ops.Pi
+
+-- one part more
+abbrev pub and_part : Row Var Name → Term → Row Var Name
+and_part end a = kid None a end
+and_part (kid b e r) a = kid b e (and_part r a)
 
 -- an annotation on what has this expression
 abbrev pub note_on : Term → Part → Part → Part

@@ -18,7 +18,9 @@ use Rattle.dh_grammar.specs.Making.{option_map}
 use Rattle.dh_syntax.specs.Expressions.Levels.{level_of}
 use Rattle.dh_grammar.specs.Stubs.{at as code_at, Part, Parts, stub, kept, deepest, row, node, unbound, let_part, around, note_on, noted_if, record_part, joined, dotted, alternatives_in, types_in, stubs}
 use Rattle.dh_grammar.specs.Inside.Cut.{cut, cut_tree, cut_binding, labelled, cutting}
-use Rattle.dh_grammar.specs.Inside.Terms.{Operand, Binding, term_sorts, terms, and_part, so_far}
+use Rattle.dh_grammar.specs.Inside.Terms.{Operand, Binding, term_sorts, terms}
+use Rattle.dh_grammar.specs.Making.{so_far}
+use Rattle.dh_grammar.specs.Stubs.{and_part}
 use Rattle.dh_grammar.specs.Inside.Terms as code
 use Rattle.dh_grammar.proofs.TruthValues.{by_test}
 

@@ -16,7 +16,7 @@ use Rattle.dh_grammar.specs.Inside.Forget.{ftree, let_list, forgetting, forget}
 use Rattle.dh_grammar.specs.Machine as machine
 use Rattle.dh_grammar.specs.Inside.Mapping.{Carries}
 use Rattle.dh_grammar.specs.Making.{option_map}
-use Rattle.dh_grammar.specs.Inside.Terms.{Operand, Binding, Texts, term_sorts, terms, around, so_far}
+use Rattle.dh_grammar.specs.Inside.Terms.{Operand, Binding, Texts, term_sorts, terms, around}
 use Rattle.dh_grammar.specs.Inside.Terms as code
 use Rattle.dh_grammar.specs.Trees.{State, trees, quantify, updating, noting, add_let, add_item, add_alternative, add_field, add_entry, after, gap_at, depth_at}
 use Rattle.dh_grammar.proofs.Maps.Carrying.{carry_after, map_gap, map_depth}

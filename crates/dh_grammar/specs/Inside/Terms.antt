@@ -5,8 +5,10 @@ use Rattle.dh_syntax.specs.declared.expressions.Op.TheVariants as ops
 use Rattle.dh_syntax.specs.Text.Derivation.{NameToken, name_label, key_label, labels}
 use Rattle.dh_syntax.specs.Expressions.Levels.{level_of}
 use Rattle.dh_syntax.specs.Text.Meaning.{put, insert, names, values, parts, variable_term, let_term, location, record_term, joined, dotted, sorted, alternatives_of, types_of, piece_of, text_pieces}
-use Rattle.dh_syntax.specs.Expressions.Tree.{Row, Node, end, kid, Name, Var, Term}
+use Rattle.dh_syntax.specs.Expressions.Tree.{Node, end, kid, Name, Term}
 use Rattle.dh_grammar.specs.Making.{Sorts, Making}
+use Rattle.dh_grammar.specs.Making.{so_far}
+use Rattle.dh_grammar.specs.Stubs.{and_part}
 
 -- an operand: its expression and how tightly it binds
 pub record Operand : Type 0 where
@@ -42,11 +44,6 @@ abbrev pub quantify : Bool → NameToken → Operand → Operand → Operand
 quantify true w a b = at 0 (Node ops.Lam (kid None a.expression (kid (Some (name_label w)) b.expression end)))
 quantify false w a b = at 0 (Node ops.Pi (kid None a.expression (kid (Some (name_label w)) b.expression end)))
 
--- one part more
-abbrev pub and_part : Row Var Name → Term → Row Var Name
-and_part end a = kid None a end
-and_part (kid b e r) a = kid b e (and_part r a)
-
 abbrev pub note_on : Op → Term → Term → Term
 note_on (ops.Merge false) (Node op r) a = Node (ops.Merge true) (and_part r a)
 note_on (ops.ToMap false) (Node op r) a = Node (ops.ToMap true) (and_part r a)
@@ -67,10 +64,6 @@ add_let (Some bs) w a v = bs ++ record { name = name_label w; annotation = a; va
 abbrev pub add_item : Option (List Term) → Operand → List Term
 add_item None x = x.expression ∷ []
 add_item (Some es) x = es ++ x.expression ∷ []
-
-abbrev pub so_far : {X : Type 0} → Option (List X) → List X
-so_far None = []
-so_far (Some xs) = xs
 
 abbrev pub terms : Making term_sorts
 terms = record {
