@@ -15,3 +15,6 @@ mod marks;
 pub use faults::CborFault;
 pub use heads::{Head, head_at};
 pub use marks::{Atom, Mark, Marked, mark_at};
+
+#[cfg(test)]
+mod tests;

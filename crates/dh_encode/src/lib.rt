@@ -19,3 +19,6 @@ mod whole;
 mod writer;
 
 pub use whole::encode;
+
+#[cfg(test)]
+mod tests;
