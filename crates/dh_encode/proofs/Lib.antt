@@ -1,0 +1,11 @@
+pub mod Appends
+pub mod ArrayItems
+pub mod Encodable
+pub mod ImportItems
+pub mod Integers
+pub mod KidsByPlace
+pub mod ListTypes
+pub mod RowItems
+pub mod SpineCounts
+pub mod Spines
+pub mod Zeros

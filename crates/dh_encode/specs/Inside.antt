@@ -1,0 +1,2 @@
+-- Words that only the clauses inside this crate use.
+pub mod Items
