@@ -4,6 +4,7 @@
 mod copies;
 mod expressions;
 mod faults;
+mod label_order;
 mod lists;
 mod locations;
 mod operators;
