@@ -1,0 +1,4 @@
+pub mod KeyLists
+pub mod Loops
+pub mod NodeParts
+pub mod SortedRows

@@ -1,5 +1,5 @@
 //! The alternatives of unions.
-ghost use Rattle.std.specs.Prelude.{◌≡◌, IfOk, option_map};
+ghost use Rattle.std.specs.Prelude.{◌≡◌, false, IfOk, option_map};
 ghost use Rattle.dh_grammar.specs.Stubs.{stubs};
 ghost use Rattle.dh_operands.specs.Operands.{operand_of, note_of};
 ghost use Rattle.dh_operands.specs.Rows.{alternatives_of};
@@ -54,7 +54,7 @@ impl<N: Notes> Alternatives<N> {
     {
         let mut alts = Many::new(alloc);
         let mut types = Gathering::new(alloc);
-        'alternative: for (label, annotation) in self.by_label.into_vec(alloc)? {
+        for (label, annotation) in self.by_label.into_vec(alloc)? {
             alts.push(Alt {
                 label,
                 typed: annotation.is_some(),

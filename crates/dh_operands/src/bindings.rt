@@ -66,7 +66,7 @@ impl<N: Notes> Lets<N> {
         } = body;
         let mut bindings = self.bindings.into_vec();
         let mut spot = end;
-        'binding: while let Some(binding) = bindings.pop() {
+        while let Some(binding) = bindings.pop() {
             spot = N::through(binding.spot, end);
             part = binding.around(alloc, part, spot)?;
         }

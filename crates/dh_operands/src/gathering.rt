@@ -69,7 +69,7 @@ impl<N: Notes> Gathering<N> {
     pub fn push_all(&mut self, parts: Vec<Part<N>>) -> Result<(), AllocError>
         ensures { OnOk result (gathered_of self.new ≡ and_parts (gathered_of self.old) (unbound (map part_of parts.items))) }
     {
-        'part: for part in parts {
+        for part in parts {
             self.push(None, part)?;
         }
         Ok(())

@@ -1,5 +1,5 @@
 //! The items of lists.
-ghost use Rattle.std.specs.Prelude.{◌≡◌, IfOk, option_map};
+ghost use Rattle.std.specs.Prelude.{◌≡◌, false, IfOk, option_map};
 ghost use Rattle.dh_grammar.specs.Stubs.{stubs};
 ghost use Rattle.dh_operands.specs.Operands.{operand_of, items_of};
 

@@ -47,7 +47,7 @@ impl<N: Notes> Keys<N> {
         ensures { option_map placed_key_of result ≡ one_of (keys_of self) }
     {
         let Keys { first, more } = self;
-        if more.is_empty() { Some(first) } else { None }
+        if more.as_slice().is_empty() { Some(first) } else { None }
     }
 
     /// The labels, in the order in which they are written.
@@ -57,7 +57,7 @@ impl<N: Notes> Keys<N> {
         let Keys { first, more } = self;
         let mut labels = Many::new(alloc);
         labels.push(first.key.into_label(alloc)?)?;
-        'key: for key in more {
+        for key in more {
             labels.push(key.key.into_label(alloc)?)?;
         }
         Ok(labels)

@@ -1,5 +1,5 @@
 //! Operands without parts: literals, built-ins, variables and imports.
-ghost use Rattle.std.specs.Prelude.{◌≡◌, None, Some, IfOk, []};
+ghost use Rattle.std.specs.Prelude.{◌≡◌, false, None, Some, IfOk, []};
 ghost use Rattle.dh_grammar.specs.Stubs.{stubs, at, node, kept};
 ghost use Rattle.dh_operands.specs.Operands.{operand_of};
 ghost use Rattle.dh_operands.specs.Words.{word_of, source_of};

@@ -1,5 +1,5 @@
 //! Operands made of others: operators, applications, functions, conditions and annotations.
-ghost use Rattle.std.specs.Prelude.{◌≡◌, IfOk};
+ghost use Rattle.std.specs.Prelude.{◌≡◌, false, IfOk};
 ghost use Rattle.dh_grammar.specs.Stubs.{stubs};
 ghost use Rattle.dh_operands.specs.Operands.{operand_of};
 ghost use Rattle.dh_operands.specs.Words.{word_of, keys_of};

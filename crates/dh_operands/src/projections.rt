@@ -62,7 +62,7 @@ impl Projection {
         ensures { IfOk result (λ ls. ls ≡ names (sorted (projection_of self))) }
     {
         let mut labels = Many::new(alloc);
-        'label: for (label, _) in self.labels.into_vec(alloc)? {
+        for (label, _) in self.labels.into_vec(alloc)? {
             labels.push(label)?;
         }
         Ok(labels)

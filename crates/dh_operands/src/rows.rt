@@ -1,5 +1,5 @@
 //! The fields of record types and the entries of records.
-ghost use Rattle.std.specs.Prelude.{◌≡◌, IfOk, option_map, map, [], ◌∷◌};
+ghost use Rattle.std.specs.Prelude.{◌≡◌, false, IfOk, option_map, map, [], ◌∷◌};
 ghost use Rattle.dh_grammar.specs.Stubs.{stubs, unbound, joined, record_part};
 ghost use Rattle.dh_operands.specs.Nodes.{gathered_of, nothing, and_parts};
 ghost use Rattle.dh_operands.specs.Operands.{part_of, operand_of};
@@ -115,7 +115,7 @@ impl<N: Notes> Entry<N> {
             spot: end,
         } = value;
         let Keys { first, mut more } = keys;
-        'key: while let Some(key) = more.pop() {
+        while let Some(key) = more.pop() {
             part = record_of_one(alloc, key, part, end)?;
         }
         let spot = N::through(first.spot, end);
@@ -199,7 +199,7 @@ fn labels_and_parts<N: Notes>(
 {
     let mut labels = Many::new(alloc);
     let mut parts = Gathering::new(alloc);
-    'row: for (label, value) in rows.into_vec(alloc)? {
+    for (label, value) in rows.into_vec(alloc)? {
         labels.push(label)?;
         parts.push(None, value.part)?;
     }

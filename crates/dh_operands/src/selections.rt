@@ -1,5 +1,5 @@
 //! Selections: a field, a projection by labels, a projection by a type.
-ghost use Rattle.std.specs.Prelude.{◌≡◌, IfOk};
+ghost use Rattle.std.specs.Prelude.{◌≡◌, false, IfOk};
 ghost use Rattle.dh_grammar.specs.Stubs.{stubs, at, one};
 ghost use Rattle.dh_operands.specs.Operands.{operand_of};
 ghost use Rattle.dh_operands.specs.Projections.{projection_of};
