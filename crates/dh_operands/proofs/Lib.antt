@@ -2,3 +2,4 @@ pub mod KeyLists
 pub mod Loops
 pub mod NodeParts
 pub mod SortedRows
+pub mod SumRows
