@@ -1,4 +1,5 @@
 pub mod KeyLists
+pub mod LetLists
 pub mod Loops
 pub mod NodeParts
 pub mod SortedRows
