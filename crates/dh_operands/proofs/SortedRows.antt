@@ -1,5 +1,5 @@
 -- Lists in the order of their labels, as std's map keeps them and as the definitions have them.
-use Rattle.std.specs.Prelude.{List, [], ◌∷◌, map, Option, Some, None, Bool, true, false, ◌&&◌, ◌||◌, cond, is_some, option_map}
+use Rattle.std.specs.Prelude.{List, [], ◌∷◌, ◌++◌, map, Option, Some, None, Bool, true, false, ◌&&◌, ◌||◌, cond, is_some, option_map}
 use Rattle.std.specs.declared.cmp.Ordering.{Ordering}
 use Rattle.std.specs.declared.cmp.Ordering.TheVariants.{Less, Equal, Greater}
 use Rattle.std.specs.BTreeMap.{insert_entry, is_at}
@@ -15,7 +15,9 @@ use Rattle.dh_syntax.specs.Expressions.Numbers.{bytes_eq}
 use Rattle.dh_syntax.specs.Expressions.Order.{before, ascending}
 use Rattle.dh_syntax.specs.Expressions.Tree.{Name}
 use Rattle.dh_syntax.specs.Text.Derived.{among}
-use Rattle.dh_syntax.specs.Text.Meaning.{put, insert, names}
+use Rattle.dh_syntax.specs.Text.Derivation.{key_label, Keys, one_key, more_keys, labels}
+use Rattle.dh_syntax.specs.Text.Meaning.{put, insert, names, sorted}
+use Rattle.dh_operands.specs.Rows.{with_old}
 use Rattle.dh_syntax.proofs.NativeTests.{bytes_eq-pointwise}
 use Rattle.dh_syntax.proofs.Numbers.{bytes_eq-itself, bytes_eq-true}
 use Rattle.dh_syntax.proofs.Order.{before-slice_cmp, before_irreflexive, before-transitive}
@@ -161,10 +163,6 @@ module _ {X : Type 0} where
       ap (λ c. put_by false c ((e.0, e.1) ∷ es) ((x, v) ∷ e ∷ es) (e ∷ insert (x, v) es)) (sym next)
       ∙ ap (λ b. put_by b (before x e.0) ((e.0, e.1) ∷ es) ((x, v) ∷ e ∷ es) (e ∷ insert (x, v) es)) (sym (apart_if_before x e.0 next))
 
-  abbrev pub with_old : (X → X → X) → Option X → X → X
-  with_old join None v = v
-  with_old join (Some o) v = join o v
-
   -- by whether the first row has the label
   abbrev made : (X → X → X) → Name → X → Name × X → List (Name × X) → Bool → List (Name × X)
   made join x v e es b = insert (x, with_old join (cond b (Some e.1) (lookup (bytes_eq x) es)) v) (cond b es (e ∷ remove_entry (bytes_eq x) es))
@@ -235,3 +233,36 @@ module _ {X Y : Type 0} (f : X → Y) where
   pub remove-seen : (test : Name → Bool) (es : List (Name × X)) → remove_entry test (seen es) ≡ seen (remove_entry test es)
   remove-seen test [] = refl
   remove-seen test (e ∷ es) = ap (λ r. cond (test e.0) (seen es) ((e.0, f e.1) ∷ r)) (remove-seen test es) ∙ seen_left (test e.0) e es (remove_entry test es)
+
+-- ---- the labels of keys, in their order and as they are written
+
+or_swap : (a b c : Bool) → a || (b || c) ≡ b || (a || c)
+or_swap true true c = refl
+or_swap true false c = refl
+or_swap false b c = refl
+
+or_twice : (a b : Bool) → a || b ≡ a || (a || b)
+or_twice true b = refl
+or_twice false b = refl
+
+among_last : (x z : Name) (ys : List Name) → among x (ys ++ z ∷ []) ≡ bytes_eq x z || among x ys
+among_last x z [] = refl
+among_last x z (y ∷ ys) = ap (λ b. bytes_eq x y || b) (among_last x z ys) ∙ or_swap (bytes_eq x y) (bytes_eq x z) (among x ys)
+
+module _ {X : Type 0} where
+  among_step : (x y : Name) (v : X) (e : Name × X) (es : List (Name × X)) → among x (names (insert (y, v) es)) ≡ bytes_eq x y || among x (names es) →
+      (b c : Bool) → bytes_eq y e.0 ≡ b →
+      among x (names (put_by b c ((e.0, e.1) ∷ es) ((y, v) ∷ e ∷ es) (e ∷ insert (y, v) es))) ≡ bytes_eq x y || (bytes_eq x e.0 || among x (names es))
+  among_step x y v e es ih true c t =
+      or_twice (bytes_eq x e.0) (among x (names es)) ∙ ap (λ z. bytes_eq x z || (bytes_eq x e.0 || among x (names es))) (sym (bytes_eq-true y e.0 t))
+  among_step x y v e es ih false true t = refl
+  among_step x y v e es ih false false t = ap (λ b. bytes_eq x e.0 || b) ih ∙ or_swap (bytes_eq x e.0) (bytes_eq x y) (among x (names es))
+
+  among_insert : (x y : Name) (v : X) (es : List (Name × X)) → among x (names (insert (y, v) es)) ≡ bytes_eq x y || among x (names es)
+  among_insert x y v [] = refl
+  among_insert x y v (e ∷ es) = among_step x y v e es (among_insert x y v es) (bytes_eq y e.0) (before y e.0) refl
+
+pub among_sorted : (x : Name) (ks : Keys) → among x (names (sorted ks)) ≡ among x (labels ks)
+among_sorted x (one_key k) = refl
+among_sorted x (more_keys ks k) =
+    among_insert x (key_label k) tt (sorted ks) ∙ ap (λ b. bytes_eq x (key_label k) || b) (among_sorted x ks) ∙ sym (among_last x (key_label k) (labels ks))

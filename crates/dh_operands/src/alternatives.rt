@@ -1,8 +1,9 @@
 //! The alternatives of unions.
 ghost use Rattle.std.specs.Prelude.{◌≡◌, false, IfOk, option_map};
 ghost use Rattle.dh_grammar.specs.Stubs.{stubs};
+ghost use Rattle.dh_grammar.specs.Terms.{so_far};
 ghost use Rattle.dh_operands.specs.Operands.{operand_of, note_of};
-ghost use Rattle.dh_operands.specs.Rows.{alternatives_of};
+ghost use Rattle.dh_operands.specs.Rows.{alternatives_of, alternative_rows};
 ghost use Rattle.dh_operands.specs.Words.{key_of};
 ghost use Rattle.dh_syntax.specs.Text.Derivation.{key_label};
 ghost use Rattle.dh_syntax.specs.Text.Derived.{among};
@@ -33,10 +34,7 @@ impl<N: Notes> Alternatives<N> {
         ensures { IfOk result (λ a.
             alternatives_of a ≡ stubs.add_alternative (option_map alternatives_of so_far) (key_of key) (note_of annotation)) }
     {
-        let mut by_label = match so_far {
-            Some(alternatives) => alternatives.by_label,
-            None => ByLabel::new(alloc),
-        };
+        let mut by_label = rows_so_far(alloc, so_far);
         by_label.insert(key.into_label(alloc)?, annotation)?;
         Ok(Alternatives { by_label })
     }
@@ -66,5 +64,18 @@ impl<N: Notes> Alternatives<N> {
             level: 17,
             spot,
         })
+    }
+}
+
+/// The alternatives that there are.
+fn rows_so_far<N: Notes>(
+    alloc: Global,
+    alternatives: Option<Alternatives<N>>,
+) -> ByLabel<Option<Part<N>>>
+    ensures { alternative_rows result ≡ so_far (option_map alternatives_of alternatives) }
+{
+    match alternatives {
+        Some(alternatives) => alternatives.by_label,
+        None => ByLabel::new(alloc),
     }
 }

@@ -1,9 +1,10 @@
 //! The fields of record types and the entries of records.
 ghost use Rattle.std.specs.Prelude.{◌≡◌, false, IfOk, option_map, map, [], ◌∷◌};
 ghost use Rattle.dh_grammar.specs.Stubs.{stubs, unbound, joined, record_part};
+ghost use Rattle.dh_grammar.specs.Terms.{so_far};
 ghost use Rattle.dh_operands.specs.Nodes.{gathered_of, nothing, and_parts};
 ghost use Rattle.dh_operands.specs.Operands.{part_of, operand_of};
-ghost use Rattle.dh_operands.specs.Rows.{rows_of, fields_of, entry_of, entries_of};
+ghost use Rattle.dh_operands.specs.Rows.{placed_part_of, rows_of, fields_of, entry_of, entries_of, with_old};
 ghost use Rattle.dh_operands.specs.Words.{key_of, keys_of, placed_key_of};
 ghost use Rattle.dh_syntax.specs.Text.Derivation.{key_label};
 ghost use Rattle.dh_syntax.specs.Text.Derived.{among};
@@ -57,10 +58,7 @@ impl<N: Notes> Fields<N> {
         ensures { IfOk result (λ fs.
             fields_of fs ≡ stubs.add_field (option_map fields_of so_far) (key_of key) (operand_of annotation)) }
     {
-        let mut rows = match so_far {
-            Some(fields) => fields.rows,
-            None => ByLabel::new(alloc),
-        };
+        let mut rows = fields_so_far(alloc, so_far);
         let value = PlacedPart {
             part: annotation.part,
             spot: annotation.spot,
@@ -136,15 +134,10 @@ impl<N: Notes> Entries<N> {
     ) -> Result<Entries<N>, AllocError>
         ensures { IfOk result (λ es. entries_of es ≡ stubs.add_entry (option_map entries_of so_far) (entry_of entry)) }
     {
-        let mut rows = match so_far {
-            Some(entries) => entries.rows,
-            None => ByLabel::new(alloc),
-        };
+        let mut rows = entries_so_far(alloc, so_far);
         let Entry { label, value } = entry;
-        let value = match rows.remove(&label) {
-            Some(there) => there.joined(alloc, value)?,
-            None => value,
-        };
+        let old = rows.remove(&label);
+        let value = value.with_old(alloc, old)?;
         rows.insert(label, value)?;
         Ok(Entries { rows })
     }
@@ -163,14 +156,40 @@ impl<N: Notes> Entries<N> {
 }
 
 impl<N: Notes> PlacedPart<N> {
-    /// `self ∧ other`
-    fn joined(self, alloc: Global, other: PlacedPart<N>) -> Result<PlacedPart<N>, AllocError>
-        ensures { IfOk result (λ p. part_of p.part ≡ joined (part_of self.part) (part_of other.part)) }
+    /// The part, or `old ∧ part` where an old one stands under its label.
+    fn with_old(self, alloc: Global, old: Option<PlacedPart<N>>) -> Result<PlacedPart<N>, AllocError>
+        ensures { IfOk result (λ p.
+            placed_part_of p ≡ with_old joined (option_map placed_part_of old) (placed_part_of self)) }
     {
-        let spot = N::through(self.spot, other.spot);
-        let op = Op::Bin(BinOp::Combine);
-        let part = two(alloc, op, self.part, None, other.part, spot)?;
-        Ok(PlacedPart { part, spot })
+        match old {
+            Some(old) => {
+                let spot = N::through(old.spot, self.spot);
+                let op = Op::Bin(BinOp::Combine);
+                let part = two(alloc, op, old.part, None, self.part, spot)?;
+                Ok(PlacedPart { part, spot })
+            }
+            None => Ok(self),
+        }
+    }
+}
+
+/// The fields that there are.
+fn fields_so_far<N: Notes>(alloc: Global, fields: Option<Fields<N>>) -> ByLabel<PlacedPart<N>>
+    ensures { rows_of result ≡ so_far (option_map fields_of fields) }
+{
+    match fields {
+        Some(fields) => fields.rows,
+        None => ByLabel::new(alloc),
+    }
+}
+
+/// The entries that there are.
+fn entries_so_far<N: Notes>(alloc: Global, entries: Option<Entries<N>>) -> ByLabel<PlacedPart<N>>
+    ensures { rows_of result ≡ so_far (option_map entries_of entries) }
+{
+    match entries {
+        Some(entries) => entries.rows,
+        None => ByLabel::new(alloc),
     }
 }
 
