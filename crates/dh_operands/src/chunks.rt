@@ -54,7 +54,12 @@ impl<N: Notes> Chunks<N> {
     }
 
     /// The text; `spot` is its stretch from the opening to the closing.
-    pub fn text(self, alloc: Global, form: TextForm, spot: N::Spot) -> Result<Operand<N>, AllocError>
+    pub fn text(
+        self,
+        alloc: Global,
+        form: TextForm,
+        spot: N::Spot,
+    ) -> Result<Operand<N>, AllocError>
         ensures { IfOk result (λ x. operand_of x ≡ stubs.text form (chunks_of self)) }
     {
         let Chunks {

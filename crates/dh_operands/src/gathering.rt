@@ -80,12 +80,24 @@ impl<N: Notes> Gathering<N> {
         ensures { part_of result ≡ stubs.kept (Node op (gathered_of self).parts) (gathered_of self).nests }
     {
         let Gathering { kids, nests, notes } = self;
-        kept(alloc, Expr::Node(op, kids), nests, N::node(notes, spot), spot)
+        kept(
+            alloc,
+            Expr::Node(op, kids),
+            nests,
+            N::node(notes, spot),
+            spot,
+        )
     }
 }
 
 /// The part that an expression is, which nests so deep.
-pub fn kept<N: Notes>(alloc: Global, expression: Expr, nests: u32, notes: N, spot: N::Spot) -> Part<N>
+pub fn kept<N: Notes>(
+    alloc: Global,
+    expression: Expr,
+    nests: u32,
+    notes: N,
+    spot: N::Spot,
+) -> Part<N>
     ensures { part_of result ≡ stubs.kept (term expression) nests }
 {
     if nests <= MOST_NESTING {

@@ -18,7 +18,11 @@ pub struct Items<N> {
 
 impl<N: Notes> Items<N> {
     /// One item more behind those that there are.
-    pub fn add(alloc: Global, so_far: Option<Items<N>>, item: Operand<N>) -> Result<Items<N>, AllocError>
+    pub fn add(
+        alloc: Global,
+        so_far: Option<Items<N>>,
+        item: Operand<N>,
+    ) -> Result<Items<N>, AllocError>
         ensures { IfOk result (λ is. items_of is ≡ stubs.add_item (option_map items_of so_far) (operand_of item)) }
     {
         let mut items = match so_far {

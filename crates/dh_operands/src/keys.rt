@@ -47,7 +47,11 @@ impl<N: Notes> Keys<N> {
         ensures { option_map placed_key_of result ≡ one_of (keys_of self) }
     {
         let Keys { first, more } = self;
-        if more.as_slice().is_empty() { Some(first) } else { None }
+        if more.as_slice().is_empty() {
+            Some(first)
+        } else {
+            None
+        }
     }
 
     /// The labels, in the order in which they are written.

@@ -81,7 +81,8 @@ impl<V: Drop> ByLabel<V> {
     pub fn insert(&mut self, label: Label, value: V) -> Result<(), AllocError>
         ensures { OnOk result (self.new ≡ insert (label, value) self.old) }
     {
-        if !self.contains(&label) {
+        let is_new = !self.contains(&label);
+        if is_new {
             self.map.insert(label, value)?;
         }
         Ok(())

@@ -114,7 +114,13 @@ fn variable_of<N: Notes>(alloc: Global, label: Label, index: u32, spot: N::Spot)
     ensures { operand_of result ≡ at 17 (kept (variable_term label (Some index)) 0) }
 {
     Operand {
-        part: kept(alloc, Expr::Var(label, index), 0, N::leaf(alloc, spot), spot),
+        part: kept(
+            alloc,
+            Expr::Var(label, index),
+            0,
+            N::leaf(alloc, spot),
+            spot,
+        ),
         level: 17,
         spot,
     }

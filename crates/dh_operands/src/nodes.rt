@@ -23,7 +23,12 @@ pub fn leaf<N: Notes>(alloc: Global, op: Op, spot: N::Spot) -> Part<N>
 }
 
 /// A node with one part.
-pub fn one<N: Notes>(alloc: Global, op: Op, part: Part<N>, spot: N::Spot) -> Result<Part<N>, AllocError>
+pub fn one<N: Notes>(
+    alloc: Global,
+    op: Op,
+    part: Part<N>,
+    spot: N::Spot,
+) -> Result<Part<N>, AllocError>
     ensures { IfOk result (λ p. part_of p ≡ node op ((None, part_of part) ∷ [])) }
 {
     let mut parts = Gathering::new(alloc);

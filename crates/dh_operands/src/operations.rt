@@ -58,7 +58,14 @@ impl<N: Notes> Operand<N> {
         ensures { IfOk result (λ x. operand_of x ≡ stubs.merging (operand_of handlers) (operand_of union)) }
     {
         let spot = N::through(opening, union.spot);
-        let part = two(alloc, Op::Merge(false), handlers.part, None, union.part, spot)?;
+        let part = two(
+            alloc,
+            Op::Merge(false),
+            handlers.part,
+            None,
+            union.part,
+            spot,
+        )?;
         Ok(Operand {
             part,
             level: 14,
@@ -67,7 +74,11 @@ impl<N: Notes> Operand<N> {
     }
 
     /// `Some value`; `opening` is the stretch of `Some`.
-    pub fn some_of(alloc: Global, opening: N::Spot, value: Operand<N>) -> Result<Operand<N>, AllocError>
+    pub fn some_of(
+        alloc: Global,
+        opening: N::Spot,
+        value: Operand<N>,
+    ) -> Result<Operand<N>, AllocError>
         ensures { IfOk result (λ x. operand_of x ≡ stubs.some_of (operand_of value)) }
     {
         let spot = N::through(opening, value.spot);
@@ -80,7 +91,11 @@ impl<N: Notes> Operand<N> {
     }
 
     /// `toMap value`; `opening` is the stretch of `toMap`.
-    pub fn to_map(alloc: Global, opening: N::Spot, value: Operand<N>) -> Result<Operand<N>, AllocError>
+    pub fn to_map(
+        alloc: Global,
+        opening: N::Spot,
+        value: Operand<N>,
+    ) -> Result<Operand<N>, AllocError>
         ensures { IfOk result (λ x. operand_of x ≡ stubs.to_map (operand_of value)) }
     {
         let spot = N::through(opening, value.spot);

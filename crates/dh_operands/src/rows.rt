@@ -157,7 +157,11 @@ impl<N: Notes> Entries<N> {
 
 impl<N: Notes> PlacedPart<N> {
     /// The part, or `old ∧ part` where an old one stands under its label.
-    fn with_old(self, alloc: Global, old: Option<PlacedPart<N>>) -> Result<PlacedPart<N>, AllocError>
+    fn with_old(
+        self,
+        alloc: Global,
+        old: Option<PlacedPart<N>>,
+    ) -> Result<PlacedPart<N>, AllocError>
         ensures { IfOk result (λ p.
             placed_part_of p ≡ with_old joined (option_map placed_part_of old) (placed_part_of self)) }
     {

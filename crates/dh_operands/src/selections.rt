@@ -15,7 +15,11 @@ use std::alloc::{AllocError, Global};
 
 impl<N: Notes> Operand<N> {
     /// `whole.key`
-    pub fn field(alloc: Global, whole: Operand<N>, key: PlacedKey<N>) -> Result<Operand<N>, AllocError>
+    pub fn field(
+        alloc: Global,
+        whole: Operand<N>,
+        key: PlacedKey<N>,
+    ) -> Result<Operand<N>, AllocError>
         ensures { IfOk result (λ x. operand_of x ≡ stubs.field (operand_of whole) (placed_key_of key)) }
     {
         let PlacedKey { key, spot: end } = key;

@@ -12,9 +12,9 @@ loop-label-preserved g c =
     let loop = c.loop-label in
     let rest = into_iter_items c.next.new.self in (
       carried loop.labels c.push.new.self (names (rows_of rest)) _ _ c.in_ok-push.ensures.ok refl
-      ∙ ap (λ is. loop.labels ++ names (rows_of is)) (sym c.in-Some.ensures.steps.0) ∙ loop.invariant.0,
+          ∙ ap (λ is. loop.labels ++ names (rows_of is)) (sym c.in-Some.ensures.steps.0) ∙ loop.invariant.0,
       ap (λ h. and_parts h (unbound (values (rows_of rest)))) c.in_ok-push-2.ensures
-      ∙ ap (λ is. and_parts (gathered_of loop.parts) (unbound (values (rows_of is)))) (sym c.in-Some.ensures.steps.0) ∙ loop.invariant.1,
+          ∙ ap (λ is. and_parts (gathered_of loop.parts) (unbound (values (rows_of is)))) (sym c.in-Some.ensures.steps.0) ∙ loop.invariant.1,
       one_taken _ _ _ _ _ c.in-Some.ensures.steps.0 c.in-Some.ensures.steps.1 loop.invariant.2,
     )
 

@@ -11,7 +11,7 @@ loop-part-preserved g c =
     let at = c.loop-part in
     let rest = into_iter_items c.next.new.self in (
       ap (λ h. and_parts h (unbound (map part_of rest))) c.in_ok-push.ensures
-      ∙ ap (λ is. and_parts (gathered_of at.self) (unbound (map part_of is))) (sym c.in-Some.ensures.steps.0) ∙ at.invariant.0,
+          ∙ ap (λ is. and_parts (gathered_of at.self) (unbound (map part_of is))) (sym c.in-Some.ensures.steps.0) ∙ at.invariant.0,
       one_taken _ _ _ _ _ c.in-Some.ensures.steps.0 c.in-Some.ensures.steps.1 at.invariant.1,
     )
 

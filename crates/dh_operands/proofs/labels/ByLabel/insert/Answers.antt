@@ -12,11 +12,11 @@ returns-in_ok-insert g c =
     let absent : among x (names c.args.self.now) ≡ false = cc in
     let new : among x (names es) ≡ false = ap (λ es. among x (names es)) c.self.view_is ∙ absent in
     let whole : c.insert.new.self.entries ≡ insert (x, c.args.value) c.args.self.now =
-        c.in_ok-insert.ensures.entries ∙ inserted_new x c.args.value es new ∙ ap (insert (x, c.args.value)) c.self.view_is in
+    c.in_ok-insert.ensures.entries ∙ inserted_new x c.args.value es new ∙ ap (insert (x, c.args.value)) c.self.view_is in
     elim c.match-branch-2.branch [ in-Some-1 w ↦ w.self-is ∙ whole | in-None-1 w ↦ w.self-is ∙ whole ]
 
-pub returns-else-not-contains : goal.returns-else-not-contains
-returns-else-not-contains g c =
+pub returns-else-is_new : goal.returns-else-is_new
+returns-else-is_new g c =
     let x = c.args.label in
     let es = c.self.inside.map.entries in
     let there : among x (names c.args.self.now) ≡ true = cc in

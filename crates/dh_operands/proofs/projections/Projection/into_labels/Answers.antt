@@ -8,7 +8,7 @@ pub loop-label-preserved : goal.loop-label-preserved
 loop-label-preserved c =
     let loop = c.loop-label in (
       carried loop.labels c.push.new.self (names (into_iter_items c.next.new.self)) _ _ c.in_ok-push.ensures.ok refl
-      ∙ ap (λ is. loop.labels ++ names is) (sym c.in-Some.ensures.steps.0) ∙ loop.invariant.0,
+          ∙ ap (λ is. loop.labels ++ names is) (sym c.in-Some.ensures.steps.0) ∙ loop.invariant.0,
       one_taken _ _ _ _ _ c.in-Some.ensures.steps.0 c.in-Some.ensures.steps.1 loop.invariant.1,
     )
 
