@@ -12,7 +12,7 @@ use Rattle.dh_syntax.specs.Expressions.Tree as tree
 use Rattle.dh_syntax.specs.Expressions.Tree.{Row, end, kid, Name, Term, Var}
 use Rattle.dh_grammar.specs.Stubs.{Part, Parts, kept, node, row, deepest, note_on}
 use Rattle.dh_grammar.specs.Terms as terms
-use Rattle.dh_operands.specs.Nodes.{Gathered, nothing, and_part, and_parts, with_annotation}
+use Rattle.dh_operands.specs.Inside.Nodes.{Gathered, nothing, and_part, and_parts, with_annotation}
 
 abbrev pub gathered : Row Var Name → ℕ → Gathered
 gathered r n = record { parts = r; nests = n }

@@ -4,7 +4,7 @@ use Rattle.dh_syntax.specs.Expressions.Tree.{Name}
 use Rattle.dh_grammar.specs.Stubs as stubs
 use Rattle.dh_grammar.specs.Stubs.{Parts, and_typed, is_typed}
 use Rattle.dh_operands.specs.declared.parts.Part.{Part}
-use Rattle.dh_operands.specs.Nodes.{Gathered, and_parts}
+use Rattle.dh_operands.specs.Inside.Nodes.{Gathered, and_parts}
 use Rattle.dh_operands.specs.Operands.{note_of}
 
 module _ {N : Type 0} where

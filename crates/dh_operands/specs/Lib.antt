@@ -1,4 +1,4 @@
-pub mod Nodes
+pub mod Inside
 pub mod Operands
 pub mod Projections
 pub mod Rows

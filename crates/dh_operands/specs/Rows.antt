@@ -1,5 +1,5 @@
 -- What the alternatives, fields and entries of the program stand for, in the order of their labels.
-use Rattle.std.specs.Prelude.{List, map, Option, Some, None}
+use Rattle.std.specs.Prelude.{List, map, Option}
 use Rattle.dh_syntax.specs.Expressions.Tree.{Name}
 use Rattle.dh_grammar.specs.Stubs as stubs
 use Rattle.dh_operands.specs.Operands.{part_of, note_of}
@@ -9,11 +9,6 @@ use Rattle.dh_operands.specs.declared.rows.PlacedPart.{PlacedPart}
 use Rattle.dh_operands.specs.declared.rows.Entry.{Entry}
 use Rattle.dh_operands.specs.declared.rows.Entries.{Entries}
 use Rattle.dh_operands.specs.declared.rows.Fields.{Fields}
-
--- what stands under a label, with what stood there before
-abbrev pub with_old : {X : Type 0} → (X → X → X) → Option X → X → X
-with_old join None x = x
-with_old join (Some old) x = join old x
 
 -- alternatives in the order of their labels
 abbrev pub alternative_rows : {N : Type 0} → List (Name × Option (Part N)) → List (Name × Option (stubs.Part))

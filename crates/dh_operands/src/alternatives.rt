@@ -20,7 +20,7 @@ use std::alloc::{AllocError, Global};
 /// The alternatives of a union, each with its type, where it has one, in the order of their labels.
 #[derive(Drop)]
 pub struct Alternatives<N> {
-    pub by_label: ByLabel<Option<Part<N>>>,
+    by_label: ByLabel<Option<Part<N>>>,
 }
 
 impl<N: Notes> Alternatives<N> {

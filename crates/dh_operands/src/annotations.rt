@@ -1,7 +1,7 @@
 //! Annotations.
 ghost use Rattle.std.specs.Prelude.{◌≡◌, IfOk};
 ghost use Rattle.dh_grammar.specs.Stubs.{stubs, note_on};
-ghost use Rattle.dh_operands.specs.Nodes.{with_annotation};
+ghost use Rattle.dh_operands.specs.Inside.Nodes.{with_annotation};
 ghost use Rattle.dh_operands.specs.Operands.{part_of, operand_of};
 ghost use Rattle.dh_syntax.specs.Expressions.Bridge.{term};
 

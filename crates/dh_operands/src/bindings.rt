@@ -24,7 +24,7 @@ pub struct Binding<N: Notes> {
 /// The bindings that share one `in`, the outermost first.
 #[derive(Drop)]
 pub struct Lets<N: Notes> {
-    pub bindings: Many<Binding<N>>,
+    bindings: Many<Binding<N>>,
 }
 
 impl<N: Notes> Lets<N> {

@@ -15,8 +15,8 @@ use std::alloc::{AllocError, Global};
 /// What has been read of a text: the pieces between its interpolations, of which there is one more than of these.
 #[derive(Drop)]
 pub struct Chunks<N> {
-    pub pieces: Pieces,
-    pub interpolations: Many<Part<N>>,
+    pieces: Pieces,
+    interpolations: Many<Part<N>>,
 }
 
 impl<N: Notes> Chunks<N> {

@@ -2,7 +2,7 @@
 ghost use Rattle.std.specs.Prelude.{◌≡◌, OnOk};
 ghost use Rattle.dh_grammar.specs.Stubs as stubs;
 ghost use Rattle.dh_grammar.specs.Stubs.{unbound, and_typed};
-ghost use Rattle.dh_operands.specs.Nodes.{gathered_of, nothing, and_part, and_parts};
+ghost use Rattle.dh_operands.specs.Inside.Nodes.{gathered_of, nothing, and_part, and_parts};
 ghost use Rattle.dh_operands.specs.Operands.{part_of};
 ghost use Rattle.dh_syntax.specs.Expressions.Bridge.{term};
 ghost use Rattle.dh_syntax.specs.Expressions.Tree.{Node};

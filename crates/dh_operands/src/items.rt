@@ -13,7 +13,7 @@ use std::alloc::{AllocError, Global};
 /// The items of a list, in their order.
 #[derive(Drop)]
 pub struct Items<N> {
-    pub parts: Many<Part<N>>,
+    parts: Many<Part<N>>,
 }
 
 impl<N: Notes> Items<N> {

@@ -19,8 +19,8 @@ pub struct PlacedKey<N: Notes> {
 /// One key or more, in the order in which they are written.
 #[derive(Drop)]
 pub struct Keys<N: Notes> {
-    pub first: PlacedKey<N>,
-    pub more: Vec<PlacedKey<N>>,
+    pub(crate) first: PlacedKey<N>,
+    pub(crate) more: Vec<PlacedKey<N>>,
 }
 
 impl<N: Notes> Keys<N> {

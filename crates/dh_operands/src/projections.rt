@@ -12,8 +12,8 @@ use std::alloc::{AllocError, Global};
 /// The keys of `x.{ a, b }` in the order in which they are written, with a set of their labels.
 #[derive(Drop)]
 pub struct Projection {
-    pub keys: Keys<()>,
-    pub labels: ByLabel<()>,
+    keys: Keys<()>,
+    labels: ByLabel<()>,
     ghost same: { labels ≡ sorted (keys_of keys) },
 }
 

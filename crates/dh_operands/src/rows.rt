@@ -2,9 +2,9 @@
 ghost use Rattle.std.specs.Prelude.{◌≡◌, false, IfOk, option_map, map, [], ◌∷◌};
 ghost use Rattle.dh_grammar.specs.Stubs.{stubs, unbound, joined, record_part};
 ghost use Rattle.dh_grammar.specs.Terms.{so_far};
-ghost use Rattle.dh_operands.specs.Nodes.{gathered_of, nothing, and_parts};
+ghost use Rattle.dh_operands.specs.Inside.Nodes.{gathered_of, nothing, and_parts, with_old};
 ghost use Rattle.dh_operands.specs.Operands.{part_of, operand_of};
-ghost use Rattle.dh_operands.specs.Rows.{placed_part_of, rows_of, fields_of, entry_of, entries_of, with_old};
+ghost use Rattle.dh_operands.specs.Rows.{placed_part_of, rows_of, fields_of, entry_of, entries_of};
 ghost use Rattle.dh_operands.specs.Words.{key_of, keys_of, placed_key_of};
 ghost use Rattle.dh_syntax.specs.Text.Derivation.{key_label};
 ghost use Rattle.dh_syntax.specs.Text.Derived.{among};
@@ -31,7 +31,7 @@ pub struct PlacedPart<N: Notes> {
 /// The fields of a record type, in the order of their labels.
 #[derive(Drop)]
 pub struct Fields<N: Notes> {
-    pub rows: ByLabel<PlacedPart<N>>,
+    rows: ByLabel<PlacedPart<N>>,
 }
 
 /// An entry of a record: the label of its first key, and what stands under it.
@@ -44,7 +44,7 @@ pub struct Entry<N: Notes> {
 /// The entries of a record, in the order of their labels.
 #[derive(Drop)]
 pub struct Entries<N: Notes> {
-    pub rows: ByLabel<PlacedPart<N>>,
+    rows: ByLabel<PlacedPart<N>>,
 }
 
 impl<N: Notes> Fields<N> {

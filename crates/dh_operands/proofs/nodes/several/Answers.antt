@@ -1,6 +1,6 @@
 use Rattle.std.proofs.Common.{◌∙◌, ap, map}
 use Rattle.dh_grammar.specs.Stubs.{unbound}
-use Rattle.dh_operands.specs.Nodes.{and_parts}
+use Rattle.dh_operands.specs.Inside.Nodes.{and_parts}
 use Rattle.dh_operands.specs.Operands.{part_of}
 use Rattle.dh_operands.proofs.NodeParts.{finished}
 use Rattle.dh_operands.proofs.nodes.several.Goals as goal

@@ -1,5 +1,5 @@
 use Rattle.std.proofs.Common.{◌∙◌, ap, [], ◌∷◌, None}
-use Rattle.dh_operands.specs.Nodes.{and_part}
+use Rattle.dh_operands.specs.Inside.Nodes.{and_part}
 use Rattle.dh_operands.specs.Operands.{part_of}
 use Rattle.dh_operands.proofs.NodeParts.{finished}
 use Rattle.dh_operands.proofs.nodes.two.Goals as goal

@@ -2,7 +2,7 @@ use Rattle.std.proofs.Common.{◌≡◌, ◌++◌, refl, ap, sym, ◌∙◌, app
 use Rattle.std.specs.Vec.Iter.{into_iter_items}
 use Rattle.dh_syntax.specs.Text.Meaning.{names, values}
 use Rattle.dh_grammar.specs.Stubs.{unbound}
-use Rattle.dh_operands.specs.Nodes.{gathered_of, nothing, and_parts}
+use Rattle.dh_operands.specs.Inside.Nodes.{gathered_of, nothing, and_parts}
 use Rattle.dh_operands.specs.Rows.{rows_of}
 use Rattle.dh_operands.proofs.Loops.{nothing_left, one_taken, carried}
 use Rattle.dh_operands.proofs.rows.labels_and_parts.Goals as goal

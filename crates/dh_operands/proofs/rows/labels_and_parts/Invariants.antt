@@ -2,7 +2,7 @@ use Rattle.std.proofs.Common.{◌≡◌, ◌++◌, length}
 use Rattle.std.specs.Vec.Iter.{into_iter_items, into_iter_len}
 use Rattle.dh_syntax.specs.Text.Meaning.{names, values}
 use Rattle.dh_grammar.specs.Stubs.{unbound}
-use Rattle.dh_operands.specs.Nodes.{gathered_of, nothing, and_parts}
+use Rattle.dh_operands.specs.Inside.Nodes.{gathered_of, nothing, and_parts}
 use Rattle.dh_operands.specs.Rows.{rows_of}
 use Rattle.dh_operands.proofs.rows.labels_and_parts.Given as goal
 

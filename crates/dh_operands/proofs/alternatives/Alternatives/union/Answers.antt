@@ -2,7 +2,7 @@ use Rattle.std.proofs.Common.{◌≡◌, ◌++◌, refl, ap, sym, ◌∙◌, app
 use Rattle.std.specs.Vec.Iter.{into_iter_items}
 use Rattle.dh_syntax.specs.declared.expressions.Op.TheVariants as ops
 use Rattle.dh_grammar.specs.Stubs.{at, node, alternatives_in, types_in, is_typed}
-use Rattle.dh_operands.specs.Nodes.{gathered_of, nothing, and_parts}
+use Rattle.dh_operands.specs.Inside.Nodes.{gathered_of, nothing, and_parts}
 use Rattle.dh_operands.specs.Operands.{note_of}
 use Rattle.dh_operands.proofs.Loops.{nothing_left, one_taken, carried}
 use Rattle.dh_operands.proofs.NodeParts.{finished}

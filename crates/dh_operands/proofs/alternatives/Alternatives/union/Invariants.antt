@@ -1,7 +1,7 @@
 use Rattle.std.proofs.Common.{◌≡◌, ◌++◌, length}
 use Rattle.std.specs.Vec.Iter.{into_iter_items, into_iter_len}
 use Rattle.dh_grammar.specs.Stubs.{alternatives_in, types_in}
-use Rattle.dh_operands.specs.Nodes.{gathered_of, nothing, and_parts}
+use Rattle.dh_operands.specs.Inside.Nodes.{gathered_of, nothing, and_parts}
 use Rattle.dh_operands.proofs.SumRows.{rows_of}
 use Rattle.dh_operands.proofs.alternatives.Alternatives.union.Given as goal
 

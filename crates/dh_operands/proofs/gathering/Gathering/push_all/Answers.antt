@@ -1,7 +1,7 @@
 use Rattle.std.proofs.Common.{◌≡◌, ◌∷◌, map, length, refl, ap, sym, ◌∙◌, arith}
 use Rattle.std.specs.Vec.Iter.{into_iter_items, into_iter_len}
 use Rattle.dh_grammar.specs.Stubs.{unbound}
-use Rattle.dh_operands.specs.Nodes.{gathered_of, and_parts}
+use Rattle.dh_operands.specs.Inside.Nodes.{gathered_of, and_parts}
 use Rattle.dh_operands.specs.Operands.{part_of}
 use Rattle.dh_operands.proofs.Loops.{nothing_left, one_taken}
 use Rattle.dh_operands.proofs.gathering.Gathering.push_all.Goals as goal

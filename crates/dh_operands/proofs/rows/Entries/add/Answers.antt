@@ -4,7 +4,8 @@ use Rattle.dh_syntax.specs.Expressions.Numbers.{bytes_eq}
 use Rattle.dh_syntax.specs.Expressions.Order.{ascending}
 use Rattle.dh_syntax.specs.Text.Meaning.{put, insert, names}
 use Rattle.dh_grammar.specs.Stubs.{joined}
-use Rattle.dh_operands.specs.Rows.{rows_of, placed_part_of, with_old}
+use Rattle.dh_operands.specs.Inside.Nodes.{with_old}
+use Rattle.dh_operands.specs.Rows.{rows_of, placed_part_of}
 use Rattle.dh_operands.proofs.SortedRows.{insert-seen, remove-seen, lookup-seen, names-seen, put_back}
 use Rattle.dh_operands.proofs.rows.Entries.add.Goals as goal
 

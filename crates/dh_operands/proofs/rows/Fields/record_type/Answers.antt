@@ -2,7 +2,7 @@ use Rattle.std.proofs.Common.{◌∙◌, ap}
 use Rattle.dh_syntax.specs.declared.expressions.Op.TheVariants as ops
 use Rattle.dh_syntax.specs.Text.Meaning.{values}
 use Rattle.dh_grammar.specs.Stubs.{at, node, unbound}
-use Rattle.dh_operands.specs.Nodes.{gathered_of}
+use Rattle.dh_operands.specs.Inside.Nodes.{gathered_of}
 use Rattle.dh_operands.specs.Rows.{rows_of}
 use Rattle.dh_operands.proofs.NodeParts.{finished}
 use Rattle.dh_operands.proofs.rows.Fields.record_type.Goals as goal

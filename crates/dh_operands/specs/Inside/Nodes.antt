@@ -32,3 +32,8 @@ abbrev pub with_annotation : Op → Option Op
 with_annotation (ops.Merge false) = Some (ops.Merge true)
 with_annotation (ops.ToMap false) = Some (ops.ToMap true)
 with_annotation _ = None
+
+-- what stands under a label, with what stood there before
+abbrev pub with_old : {X : Type 0} → (X → X → X) → Option X → X → X
+with_old join None x = x
+with_old join (Some old) x = join old x
