@@ -15,6 +15,7 @@ mod copies;
 mod expressions;
 mod fault_lines;
 mod faults;
+mod label_order;
 mod limits;
 mod lists;
 mod locations;

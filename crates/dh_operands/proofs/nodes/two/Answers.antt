@@ -1,0 +1,13 @@
+use Rattle.std.proofs.Common.{◌∙◌, ap, [], ◌∷◌, None}
+use Rattle.dh_operands.specs.Inside.Nodes.{and_part}
+use Rattle.dh_operands.specs.Operands.{part_of}
+use Rattle.dh_operands.proofs.NodeParts.{finished}
+use Rattle.dh_operands.proofs.nodes.two.Goals as goal
+
+pub returns : goal.returns
+returns g c =
+    let p = part_of c.args.left in
+    let q = part_of c.args.right in
+    c.finish.ensures
+    ∙ finished c.args.op ((None, p) ∷ (c.args.binder, q) ∷ []) _
+    (c.in_ok-push-2.ensures ∙ ap (λ h. and_part h c.args.binder q) (c.in_ok-push.ensures ∙ ap (λ h. and_part h None p) c.new-parts.ensures))
