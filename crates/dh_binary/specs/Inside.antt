@@ -1,0 +1,7 @@
+-- Words that only proofs use.
+pub mod Fitting
+pub mod Mapping
+pub mod Ranges
+pub mod Running
+pub mod Sound
+pub mod Terms
