@@ -1,11 +1,10 @@
 -- What reading a printed text answers.
-use Rattle.std.proofs.Common.{◌≡◌, ℕ, zero, suc, ◌+◌, ◌*◌, ◌<◌, ◌≤◌, Bool, true, false, ◌&&◌, codes, if◌then◌else◌, nat_lt, inl, List, [], ◌∷◌, ◌++◌, length, take, Ok, Err, Result, append-nil, length-append, refl, sym, ap, subst, ◌∙◌, lit<, arith}
+use Rattle.std.proofs.Common.{◌≡◌, ℕ, suc, ◌<◌, ◌≤◌, Bool, true, false, if◌then◌else◌, nat_lt, inl, List, [], ◌∷◌, length, take, Ok, Err, Result, append-nil, refl, sym, ap, subst, ◌∙◌, arith}
 use Rattle.std.proofs.lemmas.Bool.{ltb-true, lt-ltb, both_ways}
 use Rattle.std.proofs.lemmas.Bool.Decides.{nat_tests}
 use Rattle.std.proofs.Math.Seq.{take-length}
-use Rattle.std.proofs.lemmas.Fmt.{decimal_digit}
+use Rattle.std.specs.Prelude.{nat_le}
 use Rattle.std.specs.List.{list_any}
-use Rattle.dh_syntax.specs.Expressions.Arity.{IsWellFormed}
 use Rattle.dh_syntax.specs.declared.faults.ParseFault.TheVariants as faults
 use Rattle.dh_syntax.specs.declared.tokens.Token.{Token}
 use Rattle.dh_syntax.specs.declared.tokens.TokenKind.TheVariants as kinds
@@ -13,13 +12,13 @@ use Rattle.dh_syntax.specs.Text.Derivation.{Derivation}
 use Rattle.dh_syntax.specs.Text.Lexing.{Outside, Start, lex, LexFault}
 use Rattle.dh_syntax.specs.Text.Meaning.{meaning}
 use Rattle.dh_syntax.specs.Expressions.Nesting.{nesting}
-use Rattle.dh_syntax.specs.Text.Printed.{Layout, text_of, layout, at, bracketed}
-use Rattle.dh_syntax.specs.Expressions.Spellable.{IsSpellable, names_spellable}
+use Rattle.dh_syntax.specs.Text.Printed.{text_of}
+use Rattle.dh_syntax.specs.Expressions.Spellable.{IsSpellable}
 use Rattle.dh_syntax.specs.Text.Spelling.{AreTokens, Derives, Spells, StopsNested, ParsesTo, opens_too_many}
 use Rattle.dh_syntax.specs.Expressions.Tree.{Term}
 use Rattle.dh_syntax.specs.Text.Yield.{Written, token, free, text_yield}
-use Rattle.dh_syntax.specs.Limits.{most_bytes}
-use Rattle.dh_layout.specs.Answers.{answer, lists}
+use Rattle.dh_syntax.specs.Limits.{most_bytes, most_open}
+use Rattle.dh_layout.specs.Answers.{answer}
 use Rattle.dh_layout.specs.Opened.{opened}
 use Rattle.dh_layout.proofs.Opening.Opens.{opens}
 use Rattle.dh_layout.proofs.Trees.Trees.{tree_of}
@@ -72,14 +71,14 @@ pub printed_spells : (e : Term) → IsSpellable e → HasValues e → length (te
 printed_spells e s v size few =
     let r = read e s v in
     record {
-        is_text = (size, text_utf8 e s.2 v);
-        tokens = r.tokens;
-        lexed = r.lexed;
-        tree = tree_of e;
-        derives = r.derives;
-        few_open = counted e s v ∙ at_most (opened e) few;
-        means = r.means;
-        spellable = s
+      is_text = (size, text_utf8 e s.2 v);
+      tokens = r.tokens;
+      lexed = r.lexed;
+      tree = tree_of e;
+      derives = r.derives;
+      few_open = counted e s v ∙ at_most (opened e) few;
+      means = r.means;
+      spellable = s;
     }
   where
     at_most : (k : ℕ) → k ≤ 499 → nat_lt 499 k ≡ false
@@ -102,25 +101,31 @@ stops e r over =
     let ws = text_yield (tree_of e) in
     let whole : take (length r.tokens) ws ≡ ws = ap (λ k. take k ws) (same_length ws r.tokens r.derives.written) ∙ take-length ws in
     record {
-        before = r.tokens;
-        after = [];
-        split = sym (append-nil r.tokens);
-        many_open = record {
-            more = [];
-            tree = tree_of e;
-            derives = subst (λ ts. Derives ts (tree_of e)) (sym (append-nil r.tokens)) r.derives;
-            many_open = ap opens_too_many whole ∙ over
-        }
+      before = r.tokens;
+      after = [];
+      split = sym (append-nil r.tokens);
+      many_open = record {
+        more = [];
+        tree = tree_of e;
+        derives = subst (λ ts. Derives ts (tree_of e)) (sym (append-nil r.tokens)) r.derives;
+        many_open = ap opens_too_many whole ∙ over;
+      };
     }
+
+-- the tests on both sides of the limit
+limit : (k : ℕ) → nat_lt 499 k ≡ nat_le most_open k
+limit k = grind (arith, nat_tests)
 
 -- what reading the printed text of any expression that can be spelled answers
 pub printed_parses : (e : Term) → IsSpellable e → HasValues e → ParsesTo (text_of e) (answer e)
-printed_parses e s v = by (nat_lt most_bytes (length (text_of e))) (nat_lt 499 (opened e)) refl refl
+printed_parses e s v = by (nat_lt most_bytes (length (text_of e))) (nat_le most_open (opened e)) refl (limit (opened e))
   where
     short : (k : ℕ) → nat_lt most_bytes k ≡ false → k ≤ most_bytes
     short k h = grind (arith, nat_tests)
+
     few : (k : ℕ) → nat_lt 499 k ≡ false → k ≤ 499
     few k h = grind (arith, nat_tests)
+
     by : (large deep : Bool) → nat_lt most_bytes (length (text_of e)) ≡ large → nat_lt 499 (opened e) ≡ deep
         → ParsesTo (text_of e) (if large then Err faults.TooLarge else if deep then Err faults.TooNested else Ok e)
     by true deep l d = ltb-true most_bytes (length (text_of e)) l
@@ -155,51 +160,3 @@ printed_refused unique e f s v many t =
     let over : opens_too_many (text_yield (tree_of e)) ≡ true = counted e s v ∙ lt-ltb 499 (opened e) many in
     let few : opens_too_many (text_yield (tree_of e)) ≡ false = ap (λ d. opens_too_many (text_yield d)) (its_tree unique e f s v t) ∙ t.few_open in
     both_ways (opens_too_many (text_yield (tree_of e))) few over
-
--- ---- the bound is exact: lists
-
-pub lists_opened : (n : ℕ) → opened (lists n) ≡ n
-lists_opened zero = refl
-lists_opened (suc n) = let e = lists_opened n in omega (arith, e)
-
-pub lists_nest : (n : ℕ) → nesting (lists n) ≡ n
-lists_nest zero = refl
-lists_nest (suc n) = let e = lists_nest n in omega (arith, e)
-
-lists_values : (n : ℕ) → HasValues (lists n)
-lists_values zero = (lit< tt, tt)
-lists_values (suc n) = (tt, (lists_values n, tt))
-
-lists_formed : (n : ℕ) → IsWellFormed (lists n)
-lists_formed zero = (refl, tt)
-lists_formed (suc n) = (refl, (lists_formed n, tt))
-
-lists_named : (n : ℕ) → names_spellable (lists n) ≡ true
-lists_named zero = refl
-lists_named (suc n) = ap (λ (t : Bool). t && true) (lists_named n)
-
-at_zero : (l : Layout) → at 0 l ≡ l.text
-at_zero l = ap (λ (q : Bool). if q then bracketed l.text else l.text) (none l.level)
-  where
-    none : (k : ℕ) → nat_lt k 0 ≡ false
-    none k = grind (arith, nat_tests)
-
-lists_size : (n : ℕ) → length (text_of (lists n)) ≡ 4 * n + 1
-lists_size zero = ap length (decimal_digit 1 (lit< tt))
-lists_size (suc n) =
-    let t = text_of (lists n) in
-    let e = lists_size n in
-    let a = length-append (codes "[ " ++ t) (codes " ]") in
-    let whole : length (codes "[ " ++ t ++ codes " ]") ≡ 4 * suc n + 1 = omega (arith, a, e) in
-    ap (λ w. length (codes "[ " ++ w ++ codes " ]")) (at_zero (layout (lists n))) ∙ whole
-
--- up to 500 lists can be spelled, and their printed text is read but for 500
-pub lists_parse : (n : ℕ) → n ≤ 500 → ParsesTo (text_of (lists n)) (if nat_lt 499 n then Err faults.TooNested else Ok (lists n))
-lists_parse n h =
-    let nest : nesting (lists n) ≤ 500 = let e = lists_nest n in omega (arith, e, h) in
-    let all = printed_parses (lists n) (lists_formed n, nest, lists_named n) (lists_values n) in
-    let P : Bool → ℕ → Type 0 = λ q k. ParsesTo (text_of (lists n)) (if q then Err faults.TooLarge else if nat_lt 499 k then Err faults.TooNested else Ok (lists n)) in
-    subst (P false) (lists_opened n) (subst (λ q. P q (opened (lists n))) (small (length (text_of (lists n))) (let e = lists_size n in omega (arith, e, h))) all)
-  where
-    small : (k : ℕ) → k ≤ 2001 → nat_lt most_bytes k ≡ false
-    small k h = grind (arith, nat_tests)

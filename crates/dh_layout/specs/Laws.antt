@@ -1,5 +1,5 @@
 -- Laws of printed texts.
-use Rattle.std.specs.Prelude.{ℕ, ◌≤◌, IsTrue, IsUtf8}
+use Rattle.std.specs.Prelude.{◌≤◌, IsTrue, IsUtf8}
 use Rattle.dh_syntax.specs.Expressions.Nesting.{nesting}
 use Rattle.dh_syntax.specs.Expressions.Spellable.{IsSpellable, names_spellable}
 use Rattle.dh_syntax.specs.Expressions.Tree.{Term}

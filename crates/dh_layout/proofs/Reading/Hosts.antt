@@ -49,11 +49,11 @@ letter_no_hyphen false b h = grind (arith, nat_tests)
 
 one_more : (x any : Bool) (b n : ℕ) (bs : List ℕ) → is_host_byte b ≡ true → (any || not (b == 45)) ≡ true → Rest any n bs → Rest x (suc n) (b ∷ bs)
 one_more x any b n bs h q r = record {
-    k = suc r.k;
-    run = ap (λ (t : Bool). cond t (1 + prefix_len is_host_byte bs) 0) h ∙ one-add (prefix_len is_host_byte bs) ∙ ap suc r.run;
-    fits = let f = r.fits in omega (arith, f);
-    last = λ c p. r.last b q;
-    total = counted r.k (beyond (drop r.k bs)) n r.total
+  k = suc r.k;
+  run = ap (λ (t : Bool). cond t (1 + prefix_len is_host_byte bs) 0) h ∙ one-add (prefix_len is_host_byte bs) ∙ ap suc r.run;
+  fits = let f = r.fits in omega (arith, f);
+  last = λ c p. r.last b q;
+  total = counted r.k (beyond (drop r.k bs)) n r.total;
 }
   where
     counted : (k m n : ℕ) → k + m ≡ n → suc k + m ≡ suc n
@@ -62,11 +62,11 @@ one_more x any b n bs h q r = record {
 -- a host's rest that begins with no byte of a label
 over : (b n : ℕ) (bs : List ℕ) → is_host_byte b ≡ false → beyond (b ∷ bs) ≡ n → Rest false n (b ∷ bs)
 over b n bs h e = record {
-    k = 0;
-    run = ap (λ (t : Bool). cond t (1 + prefix_len is_host_byte bs) 0) h;
-    fits = omega arith;
-    last = λ c p. not-true (c == 45) p;
-    total = counted (beyond (b ∷ bs)) n e
+  k = 0;
+  run = ap (λ (t : Bool). cond t (1 + prefix_len is_host_byte bs) 0) h;
+  fits = omega arith;
+  last = λ c p. not-true (c == 45) p;
+  total = counted (beyond (b ∷ bs)) n e;
 }
   where
     counted : (m n : ℕ) → m ≡ n → 0 + m ≡ n
@@ -102,7 +102,7 @@ dotted any b n bs h r =
     let rest = drop r.k bs in
     let m = more_labels 0 rest in
     let labels : more_labels 0 (46 ∷ b ∷ bs) ≡ suc (suc (r.k + m)) =
-        ap (λ l. loc.after_dot l (λ n. more_labels n (b ∷ bs))) (label_is any b n bs h r) ∙ ap (λ t. suc (suc t)) (skip_labels r.k bs r.fits) in
+    ap (λ l. loc.after_dot l (λ n. more_labels n (b ∷ bs))) (label_is any b n bs h r) ∙ ap (λ t. suc (suc t)) (skip_labels r.k bs r.fits) in
     let t = r.total in
     let sum : suc (suc (r.k + m)) + port_len (drop m rest) ≡ suc (suc n) = omega (arith, t) in
     ap (λ l. l + port_len (drop l (46 ∷ b ∷ bs))) labels
@@ -133,10 +133,10 @@ mutual
       let a4 = b == 58 && list_all is_ascii_digit bs in
       either (a1 || a2 || a3) a4 (P b) h
       (λ q. either (a1 || a2) a3 (P b) q
-       (λ q. either a1 a2 (P b) q
-        (λ q. let parts = and_parts (is_ascii_alphanumeric b) (after_letter bs) q in one_more false false b (length bs) (bs ++ 47 ∷ t) (letter_byte b parts.0) (letter_no_hyphen false b parts.0) (letter bs t parts.1))
-        (λ q. let parts = and_parts (b == 45) (after_hyphen bs) q in by_equal b 45 P parts.0 (one_more false true 45 (length bs) (bs ++ 47 ∷ t) refl refl (hyphen bs t parts.1))))
-       (λ q. let parts = and_parts (b == 46) (after_dot bs) q in by_equal b 46 P parts.0 (over 46 (suc (length bs)) (bs ++ 47 ∷ t) refl (dot bs t parts.1))))
+      (λ q. either a1 a2 (P b) q
+      (λ q. let parts = and_parts (is_ascii_alphanumeric b) (after_letter bs) q in one_more false false b (length bs) (bs ++ 47 ∷ t) (letter_byte b parts.0) (letter_no_hyphen false b parts.0) (letter bs t parts.1))
+      (λ q. let parts = and_parts (b == 45) (after_hyphen bs) q in by_equal b 45 P parts.0 (one_more false true 45 (length bs) (bs ++ 47 ∷ t) refl refl (hyphen bs t parts.1))))
+      (λ q. let parts = and_parts (b == 46) (after_dot bs) q in by_equal b 46 P parts.0 (over 46 (suc (length bs)) (bs ++ 47 ∷ t) refl (dot bs t parts.1))))
       (λ q. let parts = and_parts (b == 58) (list_all is_ascii_digit bs) q in by_equal b 58 P parts.0 (over 58 (suc (length bs)) (bs ++ 47 ∷ t) refl (port_beyond bs t parts.1)))
 
   hyphen : (bs t : List ℕ) → after_hyphen bs ≡ true → Rest true (length bs) (bs ++ 47 ∷ t)
@@ -171,8 +171,8 @@ host_read (b ∷ bs) t e =
     let n = suc (r.k + m) in
     let shift : suc r.k + m ≡ n = omega arith in
     let domain : domain_len (b ∷ R) ≡ n =
-        ap (λ l. if nat_lt 0 l then l + more_labels 0 (drop l (b ∷ R)) else 0) (label_is false b (length bs) R parts.0 r)
-        ∙ ap (λ (q : Bool). if q then suc r.k + m else 0) (lt-ltb 0 (suc r.k) (omega arith)) ∙ shift in
+    ap (λ l. if nat_lt 0 l then l + more_labels 0 (drop l (b ∷ R)) else 0) (label_is false b (length bs) R parts.0 r)
+    ∙ ap (λ (q : Bool). if q then suc r.k + m else 0) (lt-ltb 0 (suc r.k) (omega arith)) ∙ shift in
     let total = r.total in
     let sum : n + port_len (drop m rest) ≡ suc (length bs) = omega (arith, total) in
     ap (λ l. if nat_lt 0 l then l + port_len (drop l (b ∷ R)) else 0) domain
@@ -234,12 +234,12 @@ scheme_read kind before u rest some h s =
         let long : host_len all ≡ n = host_read host (drop 1 (path ++ tail)) e in
         let back : drop n all ≡ path ++ tail = drop_front host (path ++ tail) in
         let read : components segment 0 (drop n all) ≡ record { texts = c ∷ cs; total = length path } =
-            ap (components segment 0) back ∙ segments_read (c ∷ cs) tail parts.0 (query_stops u.query rest s) (query_no_slash u.query rest s) in
+        ap (components segment 0) back ∙ segments_read (c ∷ cs) tail parts.0 (query_stops u.query rest s) (query_no_slash u.query rest s) in
         let behind : drop (n + length path) all ≡ tail = sym (drop-drop (length path) n all) ∙ ap (drop (length path)) back ∙ drop_front path tail in
         let found : Option (List ℕ) → Url = λ o. record { host = host; comps = c ∷ cs; query = o } in
         let no_user : (slice_index all n == 64) ≡ false = ap (λ k. k == 64) (slash_at host (drop 1 (path ++ tail))) in
         let size : before + n + length path + query_len u.query ≡ before + length (host ++ path ++ q) =
-            let e1 = query_size u.query in let e2 = length-append (host ++ path) q in let e3 = length-append host path in omega (arith, e1, e2, e3) in
+        let e1 = query_size u.query in let e2 = length-append (host ++ path) q in let e3 = length-append host path in omega (arith, e1, e2, e3) in
         let some' : 0 < before + length (host ++ path ++ q) = omega arith in
         ap (after_scheme kind before) front
         ∙ ap (λ (t : Bool). if t then form LeftOut (1 + before) else if host_len all == 0 then None else if slice_index all (host_len all) == 64 then form LeftOut (1 + before + host_len all) else url_form kind before (host_len all) all) (letter_no_bracket b (and_parts (is_ascii_alphanumeric b) (after_letter bs) e).0)
@@ -263,8 +263,8 @@ http_reads u some h p g rest n ws c s after =
     let size : 7 + length t ≡ suc (suc (suc (suc (suc (suc (suc (length t))))))) = omega arith in
     give p g 104 (116 ∷ 116 ∷ 112 ∷ 58 ∷ 47 ∷ 47 ∷ t) rest (kinds.Url (locs.Http u)) n ws c (λ b. tt) refl refl
     (code_form-word (codes "http://" ++ (t ++ rest)) refl
-     ∙ word-url (codes "http://" ++ (t ++ rest)) _ (scheme_read locs.Http 7 u rest some h s)
-     ∙ ap (λ l. Some (record { found = Is (kinds.Url (locs.Http u)); len = l })) size)
+    ∙ word-url (codes "http://" ++ (t ++ rest)) _ (scheme_read locs.Http 7 u rest some h s)
+    ∙ ap (λ l. Some (record { found = Is (kinds.Url (locs.Http u)); len = l })) size)
     (λ at. after)
 
 pub https_reads : (u : Url) → has_some u.comps ≡ true → url_spellable u ≡ true → LocReads (locs.Https u)
@@ -273,6 +273,6 @@ https_reads u some h p g rest n ws c s after =
     let size : 8 + length t ≡ suc (suc (suc (suc (suc (suc (suc (suc (length t)))))))) = omega arith in
     give p g 104 (116 ∷ 116 ∷ 112 ∷ 115 ∷ 58 ∷ 47 ∷ 47 ∷ t) rest (kinds.Url (locs.Https u)) n ws c (λ b. tt) refl refl
     (code_form-word (codes "https://" ++ (t ++ rest)) refl
-     ∙ word-url (codes "https://" ++ (t ++ rest)) _ (scheme_read locs.Https 8 u rest some h s)
-     ∙ ap (λ l. Some (record { found = Is (kinds.Url (locs.Https u)); len = l })) size)
+    ∙ word-url (codes "https://" ++ (t ++ rest)) _ (scheme_read locs.Https 8 u rest some h s)
+    ∙ ap (λ l. Some (record { found = Is (kinds.Url (locs.Https u)); len = l })) size)
     (λ at. after)

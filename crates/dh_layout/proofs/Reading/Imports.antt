@@ -104,21 +104,24 @@ environment_reads x h p g rest n ws c s after = by (is_plain_variable x) refl
   where
     shown : Bool → List ℕ
     shown t = codes "env:" ++ (if t then x else quoted x)
+
     plain : (x : List ℕ) → is_plain_variable x ≡ true → Lexes p g ((codes "env:" ++ x) ++ rest) (token n g (kinds.Environment x) ∷ ws)
     plain [] e = absurd (both_ways false refl e)
     plain (b ∷ x) e =
         give p g 101 (110 ∷ 118 ∷ 58 ∷ b ∷ x) rest (kinds.Environment (b ∷ x)) n ws c (λ b. tt) refl refl
         (code_form-word (codes "env:" ++ (b ∷ x ++ rest)) refl ∙ word-environment (codes "env:" ++ (b ∷ x ++ rest)) _ (plain_read b x rest e s) ∙ ap (λ l. Some (record { found = Is (kinds.Environment (b ∷ x)); len = l })) (size_plain (length x)))
         (λ at. after)
+
     closed : (x : List ℕ) → is_environment x ≡ true → Lexes p g ((codes "env:" ++ quoted x) ++ rest) (token n g (kinds.Environment x) ∷ ws)
     closed x e =
         let parts = and_parts (has_some x) (list_all is_quoted_environment_byte x) e in
         let shape : (34 ∷ (x ++ 34 ∷ [])) ++ rest ≡ 34 ∷ x ++ 34 ∷ rest = ap (λ t. 34 ∷ t) (append_assoc x (34 ∷ []) rest) in
         give p g 101 (110 ∷ 118 ∷ 58 ∷ 34 ∷ (x ++ 34 ∷ [])) rest (kinds.Environment x) n ws c (λ b. tt) refl refl
         (ap (λ t. code_form (codes "env:" ++ t)) shape
-         ∙ code_form-word (codes "env:" ++ (34 ∷ x ++ 34 ∷ rest)) refl ∙ word-environment (codes "env:" ++ (34 ∷ x ++ 34 ∷ rest)) _ (quoted_read x rest (some_of x parts.0) parts.1)
-         ∙ ap (λ l. Some (record { found = Is (kinds.Environment x); len = l })) (size_quoted x))
+        ∙ code_form-word (codes "env:" ++ (34 ∷ x ++ 34 ∷ rest)) refl ∙ word-environment (codes "env:" ++ (34 ∷ x ++ 34 ∷ rest)) _ (quoted_read x rest (some_of x parts.0) parts.1)
+        ∙ ap (λ l. Some (record { found = Is (kinds.Environment x); len = l })) (size_quoted x))
         (λ at. after)
+
     by : (t : Bool) → is_plain_variable x ≡ t → Lexes p g (shown (is_plain_variable x) ++ rest) (token n g (kinds.Environment x) ∷ ws)
     by true e = subst (λ t. Lexes p g (shown t ++ rest) (token n g (kinds.Environment x) ∷ ws)) (sym e) (plain x e)
     by false e = subst (λ t. Lexes p g (shown t ++ rest) (token n g (kinds.Environment x) ∷ ws)) (sym e) (closed x h)
@@ -177,9 +180,9 @@ digest_reads p (Some d') rest n ws c h after =
     let len : 71 ≡ suc (suc (suc (suc (suc (suc (suc (length ds))))))) = omega (arith, size') in
     space p (codes "sha256:" ++ ds ++ rest) _ c
     (give p true 115 (104 ∷ 97 ∷ 50 ∷ 53 ∷ 54 ∷ 58 ∷ ds) rest (kinds.Digest d') n ws c (λ b. tt) refl refl
-     (code_form-word (codes "sha256:" ++ (ds ++ rest)) refl ∙ word-digest (codes "sha256:" ++ (ds ++ rest)) _ (digest_read d'.0 rest h.0 h.1)
-      ∙ ap (λ l. Some (record { found = Is (kinds.Digest d'); len = l })) len)
-     (λ at. after))
+    (code_form-word (codes "sha256:" ++ (ds ++ rest)) refl ∙ word-digest (codes "sha256:" ++ (ds ++ rest)) _ (digest_read d'.0 rest h.0 h.1)
+    ∙ ap (λ l. Some (record { found = Is (kinds.Digest d'); len = l })) len)
+    (λ at. after))
 
 mode_reads : (p : Place) (m : Mode) (rest : List ℕ) (n : ℕ) (ws : List Written) → IsCode p → is_seam 15 rest ≡ true → Lexes p false rest ws → Lexes p false (mode_text m ++ rest) (mode_yield n m ++ ws)
 mode_reads p modes.Code rest n ws c s after = after
@@ -201,14 +204,14 @@ digest_seam (Some d') rest s = refl
 
 pub good_import : (i : Import) → LocReads i.loc → location (import_of i.loc) ≡ i.loc → IsDigest i.digest → Good (Node (ops.Import i) end) (d.«import» (import_of i.loc) i.digest i.mode)
 good_import i reads' same h = record {
-    means = ap (λ l. Node (ops.Import (record { loc = l; mode = i.mode; digest = i.digest })) end) same;
-    is_derived = refl;
-    levels = refl;
-    bares = refl;
-    reads = λ n g p rest ws c s after.
-        regrouped p g (loc_text i.loc) (digest_text i.digest ∷ mode_text i.mode ∷ []) rest (token n g (import_type_kind (import_of i.loc)) ∷ []) (digest_yield n i.digest ∷ mode_yield n i.mode ∷ []) ws
-        (reads' p g _ n _ c (digest_seam i.digest (mode_text i.mode ++ rest) (mode_seam i.mode rest s))
-         (digest_reads p i.digest (mode_text i.mode ++ rest) n _ c h (mode_reads p i.mode rest n ws c s after)))
+  means = ap (λ l. Node (ops.Import (record { loc = l; mode = i.mode; digest = i.digest })) end) same;
+  is_derived = refl;
+  levels = refl;
+  bares = refl;
+  reads = λ n g p rest ws c s after.
+      regrouped p g (loc_text i.loc) (digest_text i.digest ∷ mode_text i.mode ∷ []) rest (token n g (import_type_kind (import_of i.loc)) ∷ []) (digest_yield n i.digest ∷ mode_yield n i.mode ∷ []) ws
+      (reads' p g _ n _ c (digest_seam i.digest (mode_text i.mode ++ rest) (mode_seam i.mode rest s))
+      (digest_reads p i.digest (mode_text i.mode ++ rest) n _ c h (mode_reads p i.mode rest n ws c s after)));
 }
 
 pub location_same : (l : Loc) → location (import_of l) ≡ l

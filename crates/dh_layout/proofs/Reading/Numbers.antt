@@ -37,7 +37,6 @@ drop_front (b ∷ x) rest = drop_front x rest
 
 -- ---- what may follow a number
 
-
 seam_digit : (rest : List ℕ) → is_seam 16 rest ≡ true → is_ascii_digit (first rest) ≡ false
 seam_digit rest h = let c = first rest in grind (arith, nat_tests)
 
@@ -125,15 +124,15 @@ digits_read b x rest m d s value =
     let size = digits_len b x rest d s in
     let f : Form = record { found = Is (kinds.Natural m); len = n } in
     let natural_is : natural bs ≡ Some f =
-        ap (λ k. form (natural_found (read_natural (take k bs))) k) size
-        ∙ ap (λ t. form (natural_found (read_natural t)) n) (take_front (b ∷ x) rest)
-        ∙ ap (λ v. form (natural_found v) n) value in
+    ap (λ k. form (natural_found (read_natural (take k bs))) k) size
+    ∙ ap (λ t. form (natural_found (read_natural t)) n) (take_front (b ∷ x) rest)
+    ∙ ap (λ v. form (natural_found v) n) value in
     let double_is : double bs ≡ None =
-        ap (λ k. fractional k bs) size
-        ∙ ap (λ (t : Bool). if t && (begins_fraction (drop n bs) || begins_exponent (drop n bs)) then form LeftOut (2 + n) else None) (lt-ltb 0 n (omega arith))
-        ∙ ap (λ t. if begins_fraction t || begins_exponent t then form LeftOut (2 + n) else None) (drop_front (b ∷ x) rest)
-        ∙ ap (λ (t : Bool). if t || begins_exponent rest then form LeftOut (2 + n) else None) (seam_fraction rest s)
-        ∙ ap (λ (t : Bool). if t then form LeftOut (2 + n) else None) (seam_exponent rest s) in
+    ap (λ k. fractional k bs) size
+    ∙ ap (λ (t : Bool). if t && (begins_fraction (drop n bs) || begins_exponent (drop n bs)) then form LeftOut (2 + n) else None) (lt-ltb 0 n (omega arith))
+    ∙ ap (λ t. if begins_fraction t || begins_exponent t then form LeftOut (2 + n) else None) (drop_front (b ∷ x) rest)
+    ∙ ap (λ (t : Bool). if t || begins_exponent rest then form LeftOut (2 + n) else None) (seam_fraction rest s)
+    ∙ ap (λ (t : Bool). if t then form LeftOut (2 + n) else None) (seam_exponent rest s) in
     let date_is : date bs ≡ None = ap (λ (t : Bool). if t then form LeftOut 10 else None) (shaped_not (codes "0000") (codes "00-00") (b ∷ x) rest 45 refl d.digits refl refl (seam_digit rest s) (no_hyphen (codes "00-00") rest s)) in
     let time_is : time bs ≡ None = ap (λ (t : Bool). if t then form LeftOut 5 else None) (shaped_not (codes "00") (codes "00") (b ∷ x) rest 58 refl d.digits refl refl (seam_digit rest s) (no_colon (codes "0") rest s)) in
     let binary_is : binary bs ≡ None = ap (λ (t : Bool). if t && is_bit (slice_index bs 2) then form LeftOut 3 else None) (not_next 98 b [] x rest parts.1 s refl refl) in
@@ -200,22 +199,22 @@ signed_read g b x rest z sign d s value =
     let size = digits_len b x rest d s in
     let f : Form = record { found = Is (kinds.Integer z); len = n } in
     let size' : integer_len bs ≡ n =
-        ap (λ (t : Bool). if t && nat_lt 0 (natural_len (b ∷ x ++ rest)) then suc (natural_len (b ∷ x ++ rest)) else 0) sign
-        ∙ ap (λ k. if nat_lt 0 k then suc k else 0) size
-        ∙ ap (λ (t : Bool). if t then n else 0) (lt-ltb 0 (suc (length x)) (omega arith)) in
+    ap (λ (t : Bool). if t && nat_lt 0 (natural_len (b ∷ x ++ rest)) then suc (natural_len (b ∷ x ++ rest)) else 0) sign
+    ∙ ap (λ k. if nat_lt 0 k then suc k else 0) size
+    ∙ ap (λ (t : Bool). if t then n else 0) (lt-ltb 0 (suc (length x)) (omega arith)) in
     let integer_is : integer bs ≡ Some f =
-        ap (λ k. form (integer_found (read_integer (take k bs))) k) size'
-        ∙ ap (λ t. form (integer_found (read_integer t)) n) (take_front (g ∷ b ∷ x) rest)
-        ∙ ap (λ v. form (integer_found v) n) value in
+    ap (λ k. form (integer_found (read_integer (take k bs))) k) size'
+    ∙ ap (λ t. form (integer_found (read_integer t)) n) (take_front (g ∷ b ∷ x) rest)
+    ∙ ap (λ v. form (integer_found v) n) value in
     let double_is : signed_double bs ≡ None =
-        ap (λ k. fractional k bs) size'
-        ∙ ap (λ (t : Bool). if t && (begins_fraction (drop n bs) || begins_exponent (drop n bs)) then form LeftOut (2 + n) else None) (lt-ltb 0 n (omega arith))
-        ∙ ap (λ t. if begins_fraction t || begins_exponent t then form LeftOut (2 + n) else None) (drop_front (g ∷ b ∷ x) rest)
-        ∙ ap (λ (t : Bool). if t || begins_exponent rest then form LeftOut (2 + n) else None) (seam_fraction rest s)
-        ∙ ap (λ (t : Bool). if t then form LeftOut (2 + n) else None) (seam_exponent rest s) in
+    ap (λ k. fractional k bs) size'
+    ∙ ap (λ (t : Bool). if t && (begins_fraction (drop n bs) || begins_exponent (drop n bs)) then form LeftOut (2 + n) else None) (lt-ltb 0 n (omega arith))
+    ∙ ap (λ t. if begins_fraction t || begins_exponent t then form LeftOut (2 + n) else None) (drop_front (g ∷ b ∷ x) rest)
+    ∙ ap (λ (t : Bool). if t || begins_exponent rest then form LeftOut (2 + n) else None) (seam_fraction rest s)
+    ∙ ap (λ (t : Bool). if t then form LeftOut (2 + n) else None) (seam_exponent rest s) in
     let time_is : signed_time bs ≡ None =
-        ap (λ (t : Bool). if t then form LeftOut 6 else None)
-        (ap (λ (t : Bool). is_sign g && t) (shaped_not (codes "00") (codes "00") (b ∷ x) rest 58 refl d.digits refl refl (seam_digit rest s) (no_colon (codes "0") rest s)) ∙ and_false (is_sign g)) in
+    ap (λ (t : Bool). if t then form LeftOut 6 else None)
+    (ap (λ (t : Bool). is_sign g && t) (shaped_not (codes "00") (codes "00") (b ∷ x) rest 58 refl d.digits refl refl (seam_digit rest s) (no_colon (codes "0") rest s)) ∙ and_false (is_sign g)) in
     ap (λ f. joined_all (f ∷ signed_double bs ∷ signed_time bs ∷ [])) integer_is
     ∙ ap (λ g. joined_all (Some f ∷ g ∷ signed_time bs ∷ [])) double_is
     ∙ ap (λ g. joined_all (Some f ∷ None ∷ g ∷ [])) time_is
@@ -237,7 +236,7 @@ minus_read b x rest z d s value =
     let parts = and_parts (is_ascii_digit b) (list_all is_ascii_digit x) d.digits in
     let other : (k : ℕ) → is_ascii_digit k ≡ false → eqb k b ≡ false = λ k h. ne_eqb k b (λ same. both_ways (is_ascii_digit k) h (ap is_ascii_digit same ∙ parts.0)) in
     let infinity : minus_infinity bs ≡ None =
-        ap (λ (t : Bool). if t && name_len (b ∷ x ++ rest) == 8 then form LeftOut 9 else None) (and_left (eqb 73 b) (starts_with nat_eq (x ++ rest) (codes "nfinity")) (other 73 refl)) in
+    ap (λ (t : Bool). if t && name_len (b ∷ x ++ rest) == 8 then form LeftOut 9 else None) (and_left (eqb 73 b) (starts_with nat_eq (x ++ rest) (codes "nfinity")) (other 73 refl)) in
     code_form-minus bs refl (and_left (eqb 45 b) true (other 45 refl)) (and_left (eqb 62 b) true (other 62 refl)) infinity
     ∙ signed_form-joined_all bs ∙ signed_read 45 b x rest z refl d s value
 
@@ -261,6 +260,7 @@ integer_front (negsuc n) rest h s = by (decimal (suc n)) refl
   where
     wide : suc n < 2 ^ 128
     wide = let l = ltb-true n (2 ^ 127) h in omega (arith, l)
+
     by : (ds : List ℕ) → decimal (suc n) ≡ ds → IsSigned (negsuc n) rest
     by [] e = let d = subst IsDigits e (decimal_is (suc n) wide) in absurd (let some = d.some in omega (arith, some))
     by (b ∷ x) e =

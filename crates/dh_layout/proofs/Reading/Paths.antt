@@ -57,9 +57,11 @@ component_read (b ∷ c) rest h e = by (list_all is_path_character (b ∷ c)) re
   where
     x : List ℕ
     x = b ∷ c
+
     later : (y : List ℕ) → get_or (y ++ 34 ∷ rest) (length y) 0 ≡ 34
     later [] = refl
     later (z ∷ y) = later y
+
     closed : path_component ((34 ∷ (b ∷ c ++ 34 ∷ [])) ++ rest) ≡ Some (record { text = b ∷ c; len = suc (length (b ∷ c ++ 34 ∷ [])) })
     closed =
         let x = b ∷ c in
@@ -77,6 +79,7 @@ component_read (b ∷ c) rest h e = by (list_all is_path_character (b ∷ c)) re
         ∙ ap (λ k. if k == 34 then Some (record { text = take n tail; len = 2 + n }) else None) after
         ∙ ap (λ t. Some (record { text = t; len = 2 + n })) (take_front x (34 ∷ rest))
         ∙ ap (λ l. Some (record { text = x; len = l })) size
+
     plain : list_all is_path_character (b ∷ c) ≡ true → path_component (b ∷ c ++ rest) ≡ Some (record { text = b ∷ c; len = suc (length c) })
     plain all =
         let bs = b ∷ c ++ rest in
@@ -86,6 +89,7 @@ component_read (b ∷ c) rest h e = by (list_all is_path_character (b ∷ c)) re
         ∙ ap (λ k. if nat_lt 0 k then Some (record { text = take k bs; len = k }) else None) run
         ∙ ap (λ (t : Bool). if t then Some (record { text = take n bs; len = n }) else None) (lt-ltb 0 n (omega arith))
         ∙ ap (λ t. Some (record { text = t; len = n })) (take_front (b ∷ c) rest)
+
     by : (t : Bool) → list_all is_path_character (b ∷ c) ≡ t → path_component (local_component (b ∷ c) ++ rest) ≡ Some (record { text = b ∷ c; len = length (local_component (b ∷ c)) })
     by true is =
         let P : Bool → Type 0 = λ t. let w = if t then b ∷ c else quoted (b ∷ c) in path_component (w ++ rest) ≡ Some (record { text = b ∷ c; len = length w }) in
@@ -132,11 +136,11 @@ here_reads (x ∷ cs) some h p g rest n ws c s after =
     let size : 1 + length t ≡ suc (length t) = omega arith in
     give p g 46 t rest (kinds.Path (locs.Here (x ∷ cs))) n ws c (λ b. tt) refl refl
     (code_form-dot (46 ∷ t ++ rest) refl
-     ∙ ap (λ f. joined (longest (f ∷ None ∷ None ∷ None ∷ [])) (mark (46 ∷ t ++ rest))) (path_is locs.Here 1 (x ∷ cs) rest refl h s)
-     ∙ ap (λ f. joined f (mark (46 ∷ t ++ rest))) (longest_one (form (Is (kinds.Path (locs.Here (x ∷ cs)))) (1 + length t)))
-     ∙ longer-first (Is (kinds.Path (locs.Here (x ∷ cs)))) (Is (kinds.Mark marks.Dot)) 1 (1 + length t) (omega arith) (omega arith)
-     ∙ form-some (Is (kinds.Path (locs.Here (x ∷ cs)))) (1 + length t) (omega arith)
-     ∙ ap (λ l. Some (record { found = Is (kinds.Path (locs.Here (x ∷ cs))); len = l })) size)
+    ∙ ap (λ f. joined (longest (f ∷ None ∷ None ∷ None ∷ [])) (mark (46 ∷ t ++ rest))) (path_is locs.Here 1 (x ∷ cs) rest refl h s)
+    ∙ ap (λ f. joined f (mark (46 ∷ t ++ rest))) (longest_one (form (Is (kinds.Path (locs.Here (x ∷ cs)))) (1 + length t)))
+    ∙ longer-first (Is (kinds.Path (locs.Here (x ∷ cs)))) (Is (kinds.Mark marks.Dot)) 1 (1 + length t) (omega arith) (omega arith)
+    ∙ form-some (Is (kinds.Path (locs.Here (x ∷ cs)))) (1 + length t) (omega arith)
+    ∙ ap (λ l. Some (record { found = Is (kinds.Path (locs.Here (x ∷ cs))); len = l })) size)
     (λ at. after)
   where
     longest_one : (f : Option Form) → longest (f ∷ None ∷ None ∷ None ∷ []) ≡ f
@@ -150,11 +154,11 @@ parent_reads (x ∷ cs) some h p g rest n ws c s after =
     let size : 2 + length t ≡ suc (suc (length t)) = omega arith in
     give p g 46 (46 ∷ t) rest (kinds.Path (locs.Parent (x ∷ cs))) n ws c (λ b. tt) refl refl
     (code_form-dot (46 ∷ 46 ∷ t ++ rest) refl
-     ∙ ap (λ f. joined (longest (None ∷ f ∷ None ∷ None ∷ [])) (mark (46 ∷ 46 ∷ t ++ rest))) (path_is locs.Parent 2 (x ∷ cs) rest refl h s)
-     ∙ ap (λ f. joined f (mark (46 ∷ 46 ∷ t ++ rest))) (longest_one (form (Is (kinds.Path (locs.Parent (x ∷ cs)))) (2 + length t)))
-     ∙ longer-first (Is (kinds.Path (locs.Parent (x ∷ cs)))) (Is (kinds.Mark marks.Dot)) 1 (2 + length t) (omega arith) (omega arith)
-     ∙ form-some (Is (kinds.Path (locs.Parent (x ∷ cs)))) (2 + length t) (omega arith)
-     ∙ ap (λ l. Some (record { found = Is (kinds.Path (locs.Parent (x ∷ cs))); len = l })) size)
+    ∙ ap (λ f. joined (longest (None ∷ f ∷ None ∷ None ∷ [])) (mark (46 ∷ 46 ∷ t ++ rest))) (path_is locs.Parent 2 (x ∷ cs) rest refl h s)
+    ∙ ap (λ f. joined f (mark (46 ∷ 46 ∷ t ++ rest))) (longest_one (form (Is (kinds.Path (locs.Parent (x ∷ cs)))) (2 + length t)))
+    ∙ longer-first (Is (kinds.Path (locs.Parent (x ∷ cs)))) (Is (kinds.Mark marks.Dot)) 1 (2 + length t) (omega arith) (omega arith)
+    ∙ form-some (Is (kinds.Path (locs.Parent (x ∷ cs)))) (2 + length t) (omega arith)
+    ∙ ap (λ l. Some (record { found = Is (kinds.Path (locs.Parent (x ∷ cs))); len = l })) size)
     (λ at. after)
   where
     longest_one : (f : Option Form) → longest (None ∷ f ∷ None ∷ None ∷ []) ≡ f
@@ -168,10 +172,10 @@ home_reads (x ∷ cs) some h p g rest n ws c s after =
     let size : 1 + length t ≡ suc (length t) = omega arith in
     give p g 126 t rest (kinds.Path (locs.Home (x ∷ cs))) n ws c (λ b. tt) refl refl
     (code_form-tilde (126 ∷ t ++ rest) refl
-     ∙ ap (λ f. joined (longest (None ∷ None ∷ f ∷ None ∷ [])) None) (path_is locs.Home 1 (x ∷ cs) rest refl h s)
-     ∙ longest_one (form (Is (kinds.Path (locs.Home (x ∷ cs)))) (1 + length t))
-     ∙ form-some (Is (kinds.Path (locs.Home (x ∷ cs)))) (1 + length t) (omega arith)
-     ∙ ap (λ l. Some (record { found = Is (kinds.Path (locs.Home (x ∷ cs))); len = l })) size)
+    ∙ ap (λ f. joined (longest (None ∷ None ∷ f ∷ None ∷ [])) None) (path_is locs.Home 1 (x ∷ cs) rest refl h s)
+    ∙ longest_one (form (Is (kinds.Path (locs.Home (x ∷ cs)))) (1 + length t))
+    ∙ form-some (Is (kinds.Path (locs.Home (x ∷ cs)))) (1 + length t) (omega arith)
+    ∙ ap (λ l. Some (record { found = Is (kinds.Path (locs.Home (x ∷ cs))); len = l })) size)
     (λ at. after)
   where
     longest_one : (f : Option Form) → joined (longest (None ∷ None ∷ f ∷ None ∷ [])) None ≡ f
@@ -207,15 +211,15 @@ absolute_reads (x ∷ cs) some h p g rest n ws c s after =
     let size : 0 + length t ≡ suc (length w) = omega arith in
     let bs = 47 ∷ w ++ rest in
     let no_mark : mark bs ≡ None =
-        subst (λ u. mark (47 ∷ u) ≡ None) (sym (append_assoc (local_component x) (local_text cs) rest))
-        (component_front x (local_text cs ++ rest) (λ u. mark (47 ∷ u) ≡ None) (and_parts (is_component x) (list_all is_component cs) h).0 (λ b u k. slash_mark b u (no_slash b k).0 (no_slash b k).1) (λ u. slash_mark 34 u refl refl)) in
+    subst (λ u. mark (47 ∷ u) ≡ None) (sym (append_assoc (local_component x) (local_text cs) rest))
+    (component_front x (local_text cs ++ rest) (λ u. mark (47 ∷ u) ≡ None) (and_parts (is_component x) (list_all is_component cs) h).0 (λ b u k. slash_mark b u (no_slash b k).0 (no_slash b k).1) (λ u. slash_mark 34 u refl refl)) in
     give p g 47 w rest (kinds.Path (locs.Abs (x ∷ cs))) n ws c (λ b. tt) refl refl
     (code_form-slash bs refl
-     ∙ ap (λ m. joined (path bs) m) no_mark
-     ∙ ap (λ f. joined (longest (None ∷ None ∷ None ∷ f ∷ [])) None) (path_is locs.Abs 0 (x ∷ cs) rest refl h s)
-     ∙ longest_one (form (Is (kinds.Path (locs.Abs (x ∷ cs)))) (0 + length t))
-     ∙ form-some (Is (kinds.Path (locs.Abs (x ∷ cs)))) (0 + length t) (omega arith)
-     ∙ ap (λ l. Some (record { found = Is (kinds.Path (locs.Abs (x ∷ cs))); len = l })) size)
+    ∙ ap (λ m. joined (path bs) m) no_mark
+    ∙ ap (λ f. joined (longest (None ∷ None ∷ None ∷ f ∷ [])) None) (path_is locs.Abs 0 (x ∷ cs) rest refl h s)
+    ∙ longest_one (form (Is (kinds.Path (locs.Abs (x ∷ cs)))) (0 + length t))
+    ∙ form-some (Is (kinds.Path (locs.Abs (x ∷ cs)))) (0 + length t) (omega arith)
+    ∙ ap (λ l. Some (record { found = Is (kinds.Path (locs.Abs (x ∷ cs))); len = l })) size)
     (λ at. after)
   where
     longest_one : (f : Option Form) → joined (longest (None ∷ None ∷ None ∷ f ∷ [])) None ≡ f

@@ -43,16 +43,16 @@ by_itself b bs rest counts low quote backslash dollar good =
     let good' : is_noncharacter (code_at all) ≡ false = ap is_noncharacter (code_front b bs rest counts) ∙ good in
     let size : length bs ≤ length (bs ++ rest) = omega (arith, length-append bs rest) in
     let by : Bool → Bool → Bool → Bool → Bool → Character = λ q d s c g.
-        if nat_lt 0 (if q && true then 1 else 0) || d then Ends else if s && true then escaped (bs ++ rest) else if c || g then Faults else itself all in
+    if nat_lt 0 (if q && true then 1 else 0) || d then Ends else if s && true then escaped (bs ++ rest) else if c || g then Faults else itself all in
     let dollar_begins : begins "${" all ≡ false = ap (λ t. t && starts_with nat_eq (bs ++ rest) (codes "{")) dollar' in
     let reads : piece_at all ≡ Reads (b ∷ bs) (suc (length bs)) =
-        ap (λ q. by q (begins "${" all) (eqb 92 b) (is_control b) (is_noncharacter (code_at all))) quote'
-        ∙ ap (λ d. by false d (eqb 92 b) (is_control b) (is_noncharacter (code_at all))) dollar_begins
-        ∙ ap (λ s. by false false s (is_control b) (is_noncharacter (code_at all))) backslash'
-        ∙ ap (λ c. by false false false c (is_noncharacter (code_at all))) control
-        ∙ ap (λ g. by false false false false g) good'
-        ∙ ap (λ k. Reads (take (suc k) all) (suc k)) counts
-        ∙ ap (λ l. Reads (b ∷ l) (suc (length bs))) (take_at bs rest (length bs) refl) in
+    ap (λ q. by q (begins "${" all) (eqb 92 b) (is_control b) (is_noncharacter (code_at all))) quote'
+    ∙ ap (λ d. by false d (eqb 92 b) (is_control b) (is_noncharacter (code_at all))) dollar_begins
+    ∙ ap (λ s. by false false s (is_control b) (is_noncharacter (code_at all))) backslash'
+    ∙ ap (λ c. by false false false c (is_noncharacter (code_at all))) control
+    ∙ ap (λ g. by false false false false g) good'
+    ∙ ap (λ k. Reads (take (suc k) all) (suc k)) counts
+    ∙ ap (λ l. Reads (b ∷ l) (suc (length bs))) (take_at bs rest (length bs) refl) in
     by_first piece_at b (length bs) (bs ++ rest) (b ∷ bs) size reads
     ∙ ap (λ l. onto (b ∷ bs) (suc (length bs)) (stretch piece_at 0 l)) (drop_at bs rest (length bs) refl)
 

@@ -114,16 +114,16 @@ word_read b x rest w e =
     let run : prefix_len is_name_byte bs ≡ suc (length x) = run_len is_name_byte (b ∷ x) rest parts.1 outside refl in
     let n_is : name_len bs ≡ suc (length x) = ap (λ (t : Bool). if t then prefix_len is_name_byte bs else 0) parts.0 ∙ run in
     let name_is : name bs ≡ Some (record { found = named (b ∷ x); len = suc (length x) }) =
-        ap (λ n. form (named (take n bs)) n) n_is ∙ ap (λ t. form (named t) (suc (length x))) (take_front (b ∷ x) rest) in
+    ap (λ n. form (named (take n bs)) n) n_is ∙ ap (λ t. form (named t) (suc (length x))) (take_front (b ∷ x) rest) in
     let no_http : begins "http://" bs ≡ false = colon_next 47 (codes "http") (codes "/") (b ∷ x) rest refl parts.1 e refl in
     let no_https : begins "https://" bs ≡ false = colon_next 47 (codes "https") (codes "/") (b ∷ x) rest refl parts.1 e refl in
     let no_url : url bs ≡ None =
-        ap (λ (t : Bool). if t then after_scheme locs.Http 7 (drop 7 bs) else if begins "https://" bs then after_scheme locs.Https 8 (drop 8 bs) else None) no_http
-        ∙ ap (λ (t : Bool). if t then after_scheme locs.Https 8 (drop 8 bs) else None) no_https in
+    ap (λ (t : Bool). if t then after_scheme locs.Http 7 (drop 7 bs) else if begins "https://" bs then after_scheme locs.Https 8 (drop 8 bs) else None) no_http
+    ∙ ap (λ (t : Bool). if t then after_scheme locs.Https 8 (drop 8 bs) else None) no_https in
     let no_environment : environment bs ≡ None =
-        unless_none (begins "env:" bs) (after_env (drop 4 bs)) (λ s. colon_last (codes "env") (b ∷ x) rest (λ t. after_env t ≡ None) refl parts.1 e (λ t. refl) s) in
+    unless_none (begins "env:" bs) (after_env (drop 4 bs)) (λ s. colon_last (codes "env") (b ∷ x) rest (λ t. after_env t ≡ None) refl parts.1 e (λ t. refl) s) in
     let no_digest : digest bs ≡ None =
-        unless_none (begins "sha256:" bs) (after_sha256 (drop 7 bs)) (λ s. colon_last (codes "sha256") (b ∷ x) rest (λ t. after_sha256 t ≡ None) refl parts.1 e (λ t. refl) s) in
+    unless_none (begins "sha256:" bs) (after_sha256 (drop 7 bs)) (λ s. colon_last (codes "sha256") (b ∷ x) rest (λ t. after_sha256 t ≡ None) refl parts.1 e (λ t. refl) s) in
     code_form-word bs parts.0
     ∙ ap (λ f. longest (f ∷ url bs ∷ environment bs ∷ digest bs ∷ [])) name_is
     ∙ ap (λ f. longest (Some (record { found = named (b ∷ x); len = suc (length x) }) ∷ f ∷ environment bs ∷ digest bs ∷ [])) no_url
@@ -152,8 +152,10 @@ quoted_read x rest h =
     later : (x : List ℕ) → get_or (x ++ 96 ∷ rest) (length x) 0 ≡ 96
     later [] = refl
     later (b ∷ x) = later x
+
     after : (x : List ℕ) → slice_index (96 ∷ x ++ 96 ∷ rest) (1 + length x) ≡ 96
     after x = ap (slice_index (96 ∷ x ++ 96 ∷ rest)) (one-add (length x)) ∙ later x
+
     size : 2 + length x ≡ suc (length (x ++ 96 ∷ []))
     size = let e = length-append x (96 ∷ []) in omega (arith, e)
 

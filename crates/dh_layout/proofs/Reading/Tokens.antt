@@ -60,6 +60,7 @@ named_by (r ∷ rs) x a h = by (bytes_eq r.spelling x) refl (λ q. named_by rs x
   where
     parts : (not (is_name r.meaning) ≡ true) × (list_all (λ (r : Reserved). not (is_name r.meaning)) rs ≡ true)
     parts = and_parts (not (is_name r.meaning)) (list_all (λ (r : Reserved). not (is_name r.meaning)) rs) a
+
     by : (t : Bool) → bytes_eq r.spelling x ≡ t → (is_name (named_in rs x) ≡ true → named_in rs x ≡ Is (kinds.Name x)) → named_in (r ∷ rs) x ≡ Is (kinds.Name x)
     by true e more =
         let is : named_in (r ∷ rs) x ≡ r.meaning = ap (λ (t : Bool). if t then r.meaning else named_in rs x) e in
@@ -113,6 +114,7 @@ label_token_read p g x rest n ws c q e h = by (is_plain_label x) refl
   where
     shown : Bool → List ℕ
     shown t = if t then x else codes "`" ++ x ++ codes "`"
+
     by : (t : Bool) → is_plain_label x ≡ t → Lexes p g (shown (is_plain_label x) ++ rest) (name n g (if is_plain_label x then d.plain x else d.quoted x) ∷ ws)
     by true is =
         let parts = plain_label x is in
@@ -132,7 +134,7 @@ pub mid : (p : Place) (g : Bool) (b : ℕ) (x rest : List ℕ) (k : TokenKind) (
 mid p g b x rest k n ws c calm stays brace line e h =
     space p (b ∷ x ++ 32 ∷ rest) (token n g k ∷ ws) c
     (any_gap g p (b ∷ x ++ 32 ∷ rest) (token n g k ∷ ws)
-     (give p g b x (32 ∷ rest) k n ws c calm brace line e (λ at. subst (λ q. Lexes q false (32 ∷ rest) ws) (sym (stays at)) (space p rest ws c h))))
+    (give p g b x (32 ∷ rest) k n ws c calm brace line e (λ at. subst (λ q. Lexes q false (32 ∷ rest) ws) (sym (stays at)) (space p rest ws c h))))
 
 -- the same of a word
 pub mid_word : (p : Place) (g : Bool) (x rest : List ℕ) (k : TokenKind) (n : ℕ) (ws : List Written) → IsCode p → is_word x ≡ true → named x ≡ Is k
@@ -154,6 +156,7 @@ front_of_label x rest P starts quoted = by (is_plain_label x) refl
     by_word : (x : Name) → is_word x ≡ true → ((b : ℕ) (t : List ℕ) → is_name_start b ≡ true → P (b ∷ t)) → P (x ++ rest)
     by_word [] w s = absurd (both_ways false refl w)
     by_word (b ∷ x) w s = s b (x ++ rest) (and_parts (is_name_start b) (list_all is_name_byte (b ∷ x)) w).0
+
     by : (t : Bool) → is_plain_label x ≡ t → P ((if is_plain_label x then x else codes "`" ++ x ++ codes "`") ++ rest)
     by true is = subst (λ t. P ((if t then x else codes "`" ++ x ++ codes "`") ++ rest)) (sym is) (by_word x (plain_label x is).0 starts)
     by false is = subst (λ t. P ((if t then x else codes "`" ++ x ++ codes "`") ++ rest)) (sym is) (quoted ((x ++ codes "`") ++ rest))
@@ -166,6 +169,6 @@ pub dot_label : (p : Place) (x : Name) (rest : List ℕ) (n : ℕ) (ws : List Wr
 dot_label p x rest n ws c h =
     give p false 46 [] (label x ++ rest) (kinds.Mark marks.Dot) n ws c (λ b. tt) refl refl
     (front_of_label x rest (λ t. code_form (46 ∷ t) ≡ Some (record { found = Is (kinds.Mark marks.Dot); len = 1 }))
-     (λ b t s. dot_read b t (ne_eqb b 47 (λ same. both_ways (is_name_start 47) refl (sym (ap is_name_start same) ∙ s))) (ne_eqb 46 b (λ same. both_ways (is_name_start 46) refl (ap is_name_start same ∙ s))))
-     (λ t. refl))
+    (λ b t s. dot_read b t (ne_eqb b 47 (λ same. both_ways (is_name_start 47) refl (sym (ap is_name_start same) ∙ s))) (ne_eqb 46 b (λ same. both_ways (is_name_start 46) refl (ap is_name_start same ∙ s))))
+    (λ t. refl))
     (λ at. h)

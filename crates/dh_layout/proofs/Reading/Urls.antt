@@ -25,13 +25,16 @@ chars_run test zero (b ∷ x) rest p h e = by (test b) refl (λ q. chars_run tes
     digits (c ∷ k ∷ x) h =
         let parts = and_parts (is_ascii_hexdigit c) (is_ascii_hexdigit k && is_encoded test 0 x) h in
         ap (λ (t : Bool). t && is_ascii_hexdigit k) parts.0 ∙ (and_parts (is_ascii_hexdigit k) (is_encoded test 0 x) parts.1).0
+
     plain_case : (a c d : Bool) → ((a && c) || (true && d)) ≡ true → (a ≡ true → ⊥) → d ≡ true
     plain_case true c d h never = absurd (never refl)
     plain_case false c d h never = h
+
     escaped_case : (a c d : Bool) → ((a && c) || (false && d)) ≡ true → (a ≡ true) × (c ≡ true)
     escaped_case true true d h = (refl, refl)
     escaped_case true false d h = absurd (both_ways false refl h)
     escaped_case false c d h = absurd (both_ways false refl h)
+
     by : (t : Bool) → test b ≡ t → (is_encoded test 0 x ≡ true → url_chars_len test 0 (x ++ rest) ≡ length x) → (is_encoded test 2 x ≡ true → url_chars_len test 2 (x ++ rest) ≡ length x) → url_chars_len test 0 (b ∷ x ++ rest) ≡ suc (length x)
     by true is plain escaped =
         let h' = sym (ap (λ (t : Bool). (eqb b 37 && is_encoded test 2 x) || (t && is_encoded test 0 x)) is) ∙ h in
@@ -41,7 +44,7 @@ chars_run test zero (b ∷ x) rest p h e = by (test b) refl (λ q. chars_run tes
         let h' = sym (ap (λ (t : Bool). (eqb b 37 && is_encoded test 2 x) || (t && is_encoded test 0 x)) is) ∙ h in
         let here = escaped_case (eqb b 37) (is_encoded test 2 x) (is_encoded test 0 x) h' in
         let begun : begins_percent (b ∷ x ++ rest) ≡ true =
-            ap (λ (t : Bool). t && is_ascii_hexdigit (slice_index (37 ∷ x ++ rest) 1) && is_ascii_hexdigit (slice_index (37 ∷ x ++ rest) 2)) here.0 ∙ digits x here.1 in
+        ap (λ (t : Bool). t && is_ascii_hexdigit (slice_index (37 ∷ x ++ rest) 1) && is_ascii_hexdigit (slice_index (37 ∷ x ++ rest) 2)) here.0 ∙ digits x here.1 in
         ap (λ (t : Bool). by_url_char (if t then 1 else if begins_percent (b ∷ x ++ rest) then 3 else 0) (λ n. url_chars_len test n (x ++ rest))) is
         ∙ ap (λ (t : Bool). by_url_char (if t then 3 else 0) (λ n. url_chars_len test n (x ++ rest))) begun
         ∙ ap suc (escaped here.1)

@@ -30,12 +30,13 @@ given p before gap at b x rest k n g ws e wide gapped h =
     let t : Token = record { kind = k; from = at; to = at + suc (length x); gap = gap } in
     let next = state (place_after k at p) (before_after k before) false in
     let more : State → ℕ → Result (List Token) LexFault = λ r m. tokens_from r m (suc at) (x ++ rest) in
-    let goal = skipped next x rest (suc at) ws h in
-    (t ∷ goal.0,
-     ap (λ (f : Form). by_step (step_at s at f) more) e
-     ∙ ap (λ (w : Bool). by_step (if w then Stops (Wide at) else Gives t next (suc (length x))) more) wide
-     ∙ ap (with_token t) goal.1,
-     ((refl, gapped), goal.2))
+    let goal = skipped next x rest (suc at) ws h in (
+      t ∷ goal.0,
+      ap (λ (f : Form). by_step (step_at s at f) more) e
+          ∙ ap (λ (w : Bool). by_step (if w then Stops (Wide at) else Gives t next (suc (length x))) more) wide
+          ∙ ap (with_token t) goal.1,
+      ((refl, gapped), goal.2),
+    )
 
 pub calm_index : (before : Before) (k : TokenKind) → IsCalm before → is_wide_index before k ≡ false
 calm_index Start k h = refl
@@ -61,8 +62,10 @@ pub give : (p : Place) (g : Bool) (b : ℕ) (x rest : List ℕ) (k : TokenKind) 
     → (b == 125) ≡ false → begins "#!" (b ∷ x ++ rest) ≡ false
     → code_form (b ∷ x ++ rest) ≡ Some (record { found = Is k; len = suc (length x) })
     → ((at : ℕ) → Lexes (place_after k at p) false rest ws) → Lexes p g (b ∷ x ++ rest) (token n g k ∷ ws)
-give p g b x rest k n ws c calm brace line e h = record { lexes = λ before gap calm' gapped at.
-    given p before gap at b x rest k n g ws (form_in_code before p (b ∷ x ++ rest) _ c brace line e) (calm_index before k calm') gapped (λ at'. (h at).lexes (before_after k before) false (calm before) refl at') }
+give p g b x rest k n ws c calm brace line e h = record {
+  lexes = λ before gap calm' gapped at.
+      given p before gap at b x rest k n g ws (form_in_code before p (b ∷ x ++ rest) _ c brace line e) (calm_index before k calm') gapped (λ at'. (h at).lexes (before_after k before) false (calm before) refl at');
+}
 
 calm_white : (before : Before) → IsCalm before → IsCalm (before_after_white before)
 calm_white Start h = tt
@@ -72,13 +75,16 @@ calm_white Other h = tt
 
 -- a space
 pub space : (p : Place) (rest : List ℕ) (ws : List Written) → IsCode p → Lexes p true rest ws → Lexes p false (32 ∷ rest) ws
-space p rest ws c h = record { lexes = λ before gap calm gapped at.
-    let s = state p before gap in
-    let goal = h.lexes (before_after_white before) true (calm_white before calm) refl (suc at) in
-    let more : State → ℕ → Result (List Token) LexFault = λ r m. tokens_from r m (suc at) rest in
-    (goal.0,
-     ap (λ (f : Form). by_step (step_at s at f) more) (form_in_code before p (32 ∷ rest) (record { found = White; len = 1 }) c refl refl refl) ∙ goal.1,
-     goal.2) }
+space p rest ws c h = record {
+  lexes = λ before gap calm gapped at.
+      let s = state p before gap in
+      let goal = h.lexes (before_after_white before) true (calm_white before calm) refl (suc at) in
+      let more : State → ℕ → Result (List Token) LexFault = λ r m. tokens_from r m (suc at) rest in (
+        goal.0,
+        ap (λ (f : Form). by_step (step_at s at f) more) (form_in_code before p (32 ∷ rest) (record { found = White; len = 1 }) c refl refl refl) ∙ goal.1,
+        goal.2,
+      );
+}
 
 -- a gap that is not asked for
 pub loose : (p : Place) (bs : List ℕ) (ws : List Written) → Lexes p false bs ws → Lexes p true bs ws
@@ -87,10 +93,14 @@ loose p bs ws h = record { lexes = λ before gap calm gapped at. h.lexes before 
 -- a closing brace
 pub close_brace : (p : Place) (g : Bool) (rest : List ℕ) (n : ℕ) (ws : List Written) → IsCode p → Lexes p false rest ws → Lexes (braced p) g (125 ∷ rest) (mark n g marks.BraceClose ∷ ws)
 close_brace (Among f from p) g rest n ws c h = absurd c
-close_brace (Interpolated braces f from p) g rest n ws c h = record { lexes = λ before gap calm gapped at.
-    given (braced (Interpolated braces f from p)) before gap at 125 [] rest (kinds.Mark marks.BraceClose) n g ws refl (calm_index before _ calm) gapped (λ at'. h.lexes Other false tt refl at') }
-close_brace Outside g rest n ws c h = record { lexes = λ before gap calm gapped at.
-    given Outside before gap at 125 [] rest (kinds.Mark marks.BraceClose) n g ws (outside_brace before) (calm_index before _ calm) gapped (λ at'. h.lexes Other false tt refl at') }
+close_brace (Interpolated braces f from p) g rest n ws c h = record {
+  lexes = λ before gap calm gapped at.
+      given (braced (Interpolated braces f from p)) before gap at 125 [] rest (kinds.Mark marks.BraceClose) n g ws refl (calm_index before _ calm) gapped (λ at'. h.lexes Other false tt refl at');
+}
+close_brace Outside g rest n ws c h = record {
+  lexes = λ before gap calm gapped at.
+      given Outside before gap at 125 [] rest (kinds.Mark marks.BraceClose) n g ws (outside_brace before) (calm_index before _ calm) gapped (λ at'. h.lexes Other false tt refl at');
+}
   where
     outside_brace : (before : Before) → form_at before Outside (125 ∷ rest) ≡ record { found = Is (kinds.Mark marks.BraceClose); len = 1 }
     outside_brace Start = refl
@@ -101,8 +111,10 @@ close_brace Outside g rest n ws c h = record { lexes = λ before gap calm gapped
 -- the end of an interpolation
 pub close_interpolation : (f : TextForm) (from : ℕ) (p : Place) (g : Bool) (rest : List ℕ) (n : ℕ) (ws : List Written) → Lexes (Among f from p) false rest ws
     → Lexes (Interpolated zero f from p) g (125 ∷ rest) (token n g kinds.InterpolationClose ∷ ws)
-close_interpolation f from p g rest n ws h = record { lexes = λ before gap calm gapped at.
-    given (Interpolated zero f from p) before gap at 125 [] rest kinds.InterpolationClose n g ws refl (calm_index before _ calm) gapped (λ at'. h.lexes Other false tt refl at') }
+close_interpolation f from p g rest n ws h = record {
+  lexes = λ before gap calm gapped at.
+      given (Interpolated zero f from p) before gap at 125 [] rest kinds.InterpolationClose n g ws refl (calm_index before _ calm) gapped (λ at'. h.lexes Other false tt refl at');
+}
 
 -- an opening brace
 pub open_brace : (p : Place) (g : Bool) (rest : List ℕ) (n : ℕ) (ws : List Written) → IsCode p

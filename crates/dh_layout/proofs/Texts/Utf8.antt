@@ -89,6 +89,7 @@ label_utf8 x h = by (is_plain_label x)
   where
     own : IsUtf8 x
     own = low_all x (within is_quoted_label_byte x label_low h)
+
     by : (q : Bool) → IsUtf8 (if q then x else codes "`" ++ x ++ codes "`")
     by true = own
     by false = row (codes "`") (x ∷ codes "`" ∷ []) (lit refl) (own, (lit refl, tt))
@@ -108,6 +109,7 @@ variable_utf8 v h i = by (v.index == 0)
   where
     small : v.index < 2 ^ 128
     small = omega (arith, i)
+
     by : (q : Bool) → IsUtf8 (if q then label v.name else label v.name ++ codes "@" ++ write_natural v.index)
     by true = label_utf8 v.name h
     by false = row (label v.name) (codes "@" ∷ write_natural v.index ∷ []) (label_utf8 v.name h) (lit refl, (natural_utf8 v.index small, tt))
@@ -213,10 +215,10 @@ mutual
       let a4 = b == 58 && list_all is_ascii_digit bs in
       either (a1 || a2 || a3) a4 P h
       (λ q. either (a1 || a2) a3 P q
-       (λ q. either a1 a2 P q
-        (λ q. let parts = and_parts (is_ascii_alphanumeric b) (after_letter bs) q in and_from (low b) (list_all low bs) (letter_low b parts.0) (in_letter bs parts.1))
-        (λ q. let parts = and_parts (b == 45) (after_hyphen bs) q in and_from (low b) (list_all low bs) (same_low b 45 parts.0 (lit< tt)) (in_hyphen bs parts.1)))
-       (λ q. let parts = and_parts (b == 46) (after_dot bs) q in and_from (low b) (list_all low bs) (same_low b 46 parts.0 (lit< tt)) (in_dot bs parts.1)))
+      (λ q. either a1 a2 P q
+      (λ q. let parts = and_parts (is_ascii_alphanumeric b) (after_letter bs) q in and_from (low b) (list_all low bs) (letter_low b parts.0) (in_letter bs parts.1))
+      (λ q. let parts = and_parts (b == 45) (after_hyphen bs) q in and_from (low b) (list_all low bs) (same_low b 45 parts.0 (lit< tt)) (in_hyphen bs parts.1)))
+      (λ q. let parts = and_parts (b == 46) (after_dot bs) q in and_from (low b) (list_all low bs) (same_low b 46 parts.0 (lit< tt)) (in_dot bs parts.1)))
       (λ q. let parts = and_parts (b == 58) (list_all is_ascii_digit bs) q in and_from (low b) (list_all low bs) (same_low b 58 parts.0 (lit< tt)) (within is_ascii_digit bs digit_low parts.1))
 
   in_hyphen : (bs : List ℕ) → after_hyphen bs ≡ true → list_all low bs ≡ true
@@ -247,6 +249,7 @@ component_utf8 c h = by (has_some c && list_all is_path_character c)
   where
     own : IsUtf8 c
     own = low_all c (within is_quoted_path_byte c quoted_path_low (and_parts (has_some c) (list_all is_quoted_path_byte c) h).1)
+
     by : (q : Bool) → IsUtf8 (if q then c else quoted c)
     by true = own
     by false = quoted_utf8 c own
@@ -278,6 +281,7 @@ environment_utf8 x h = IsUtf8-append (codes "env:") (if is_plain_variable x then
   where
     own : IsUtf8 x
     own = low_all x (within is_quoted_environment_byte x environment_low (and_parts (has_some x) (list_all is_quoted_environment_byte x) h).1)
+
     by : (q : Bool) → IsUtf8 (if q then x else quoted x)
     by true = own
     by false = quoted_utf8 x own

@@ -62,18 +62,24 @@ piece_lexes from p (b ∷ qs) rest n ws u good stop h = by (escape (b ∷ qs)) r
         let read' : stretch piece_at 0 (x ∷ xs ++ rest) ≡ UpTo (b ∷ qs) (suc (length xs)) = sym (ap (λ t. stretch piece_at 0 (t ++ rest)) e) ∙ read ∙ ap (λ t. UpTo (b ∷ qs) (length t)) e in
         let part = part_by x (xs ++ rest) [] b (length xs) qs (nat_lt 0 (closing_len DoubleQuoted (x ∷ xs ++ rest))) (begins "${" (x ∷ xs ++ rest)) refl refl read' in
         subst (λ t. Lexes (Among DoubleQuoted from p) false (t ++ rest) (token n free (kinds.TextPiece (b ∷ qs)) ∷ ws)) (sym e)
-        (record { lexes = λ before gap calm gapped at.
-            given (Among DoubleQuoted from p) before gap at x xs rest (kinds.TextPiece (b ∷ qs)) n false ws (ap (λ f. form_or f (no_form (x ∷ xs ++ rest))) part) (calm_index before (kinds.TextPiece (b ∷ qs)) calm) gapped
-            (λ at'. h.lexes Other false tt refl at') })
+        (record {
+          lexes = λ before gap calm gapped at.
+              given (Among DoubleQuoted from p) before gap at x xs rest (kinds.TextPiece (b ∷ qs)) n false ws (ap (λ f. form_or f (no_form (x ∷ xs ++ rest))) part) (calm_index before (kinds.TextPiece (b ∷ qs)) calm) gapped
+              (λ at'. h.lexes Other false tt refl at');
+        })
 
 close_text : (from : ℕ) (p : Place) (rest : List ℕ) (n : ℕ) (ws : List Written) → Lexes p false rest ws → Lexes (Among DoubleQuoted from p) false (34 ∷ rest) (token n free kinds.TextClose ∷ ws)
-close_text from p rest n ws h = record { lexes = λ before gap calm gapped at.
-    given (Among DoubleQuoted from p) before gap at 34 [] rest kinds.TextClose n false ws refl (calm_index before kinds.TextClose calm) gapped (λ at'. h.lexes Other false tt refl at') }
+close_text from p rest n ws h = record {
+  lexes = λ before gap calm gapped at.
+      given (Among DoubleQuoted from p) before gap at 34 [] rest kinds.TextClose n false ws refl (calm_index before kinds.TextClose calm) gapped (λ at'. h.lexes Other false tt refl at');
+}
 
 open_interpolation : (from : ℕ) (p : Place) (rest : List ℕ) (n : ℕ) (ws : List Written) → Lexes (Interpolated zero DoubleQuoted from p) false rest ws
     → Lexes (Among DoubleQuoted from p) false (36 ∷ 123 ∷ rest) (token n free kinds.InterpolationOpen ∷ ws)
-open_interpolation from p rest n ws h = record { lexes = λ before gap calm gapped at.
-    given (Among DoubleQuoted from p) before gap at 36 (123 ∷ []) rest kinds.InterpolationOpen n false ws refl (calm_index before kinds.InterpolationOpen calm) gapped (λ at'. h.lexes Other false tt refl at') }
+open_interpolation from p rest n ws h = record {
+  lexes = λ before gap calm gapped at.
+      given (Among DoubleQuoted from p) before gap at 36 (123 ∷ []) rest kinds.InterpolationOpen n false ws refl (calm_index before kinds.InterpolationOpen calm) gapped (λ at'. h.lexes Other false tt refl at');
+}
 
 -- ---- what follows the first piece
 
@@ -112,12 +118,12 @@ later_reads from p (q ∷ qs) (kid None e r) rest n ws good h after =
     let t = at 0 (layout e) in
     let tail = escape q ++ later_text qs r in
     let text_shape : (t ++ (125 ∷ tail)) ++ 34 ∷ rest ≡ t ++ (125 ∷ (escape q ++ (later_text qs r ++ 34 ∷ rest))) =
-        append_assoc t (125 ∷ tail) (34 ∷ rest) ∙ ap (λ u. t ++ (125 ∷ u)) (append_assoc (escape q) (later_text qs r) (34 ∷ rest)) in
+    append_assoc t (125 ∷ tail) (34 ∷ rest) ∙ ap (λ u. t ++ (125 ∷ u)) (append_assoc (escape q) (later_text qs r) (34 ∷ rest)) in
     let y = yield (suc n) free (tree_of e) in
     let w = piece_yield n (piece_token q) in
     let close = token n free kinds.TextClose ∷ ws in
     let written_shape : (y ++ (token n free kinds.InterpolationClose ∷ (w ++ later_written n qs r))) ++ close ≡ y ++ (token n free kinds.InterpolationClose ∷ (w ++ (later_written n qs r ++ close))) =
-        append_assoc y (token n free kinds.InterpolationClose ∷ (w ++ later_written n qs r)) close ∙ ap (λ u. y ++ (token n free kinds.InterpolationClose ∷ u)) (append_assoc w (later_written n qs r) close) in
+    append_assoc y (token n free kinds.InterpolationClose ∷ (w ++ later_written n qs r)) close ∙ ap (λ u. y ++ (token n free kinds.InterpolationClose ∷ u)) (append_assoc w (later_written n qs r) close) in
     subst (λ u. Lexes (Among DoubleQuoted from p) false (36 ∷ 123 ∷ u) (token n free kinds.InterpolationOpen ∷ ((y ++ (token n free kinds.InterpolationClose ∷ (w ++ later_written n qs r))) ++ close))) (sym text_shape)
     (subst (λ u. Lexes (Among DoubleQuoted from p) false (36 ∷ 123 ∷ (t ++ (125 ∷ (escape q ++ (later_text qs r ++ 34 ∷ rest))))) (token n free kinds.InterpolationOpen ∷ u)) (sym written_shape) opened')
 
@@ -190,21 +196,21 @@ pub good_text : (q : List ℕ) (qs : List (List ℕ)) (r : Row Var Name) → Are
 good_text q qs r good h =
     let first' = d.start (piece_token q) in
     record {
-        means =
-            ap (λ ps. Node (ops.Text ps) (parts (interpolations (chunks_from first' qs (trees_of r))))) (pieces_mean first' qs r h ∙ ap (λ t. t ∷ qs) (piece_is q))
-            ∙ ap (λ es. Node (ops.Text (q ∷ qs)) (parts es)) (parts_mean first' qs r h)
-            ∙ ap (λ row. Node (ops.Text (q ∷ qs)) row) (row_again r (all_good qs r h));
-        is_derived = chunks_are_derived first' qs r h refl;
-        levels = refl;
-        bares = refl;
-        reads = λ n g p rest ws c seam after.
-            let w = piece_yield n (piece_token q) in
-            let close = token n free kinds.TextClose ∷ [] in
-            subst (λ u. Lexes p g ((codes "\"" ++ interpolated (q ∷ qs) (texts (layouts r)) ++ codes "\"") ++ rest) ((token n g (kinds.TextOpen DoubleQuoted) ∷ u ++ close) ++ ws)) (sym (chunks_written n first' qs r h))
-            (subst (λ t. Lexes p g ((codes "\"" ++ t ++ codes "\"") ++ rest) ((token n g (kinds.TextOpen DoubleQuoted) ∷ (w ++ later_written n qs r) ++ close) ++ ws)) (sym (texts_shape q qs r h))
-             (regrouped p g (codes "\"") ((escape q ++ later_text qs r) ∷ codes "\"" ∷ []) rest (token n g (kinds.TextOpen DoubleQuoted) ∷ []) ((w ++ later_written n qs r) ∷ close ∷ []) ws
-              (give p g 34 [] ((escape q ++ later_text qs r) ++ 34 ∷ rest) (kinds.TextOpen DoubleQuoted) n ((w ++ later_written n qs r) ++ token n free kinds.TextClose ∷ ws) c (λ b. tt) refl refl refl
-               (λ at. subst (λ t. Lexes (Among DoubleQuoted at p) false t ((w ++ later_written n qs r) ++ token n free kinds.TextClose ∷ ws)) (sym (append_assoc (escape q) (later_text qs r) (34 ∷ rest)))
-                (subst (λ t. Lexes (Among DoubleQuoted at p) false (escape q ++ (later_text qs r ++ 34 ∷ rest)) t) (sym (append_assoc w (later_written n qs r) (token n free kinds.TextClose ∷ ws)))
-                 (piece_lexes at p q _ n _ good.0.0 good.0.1 (later_stops qs r rest) (later_reads at p qs r rest n ws good.1 h after)))))))
+      means =
+          ap (λ ps. Node (ops.Text ps) (parts (interpolations (chunks_from first' qs (trees_of r))))) (pieces_mean first' qs r h ∙ ap (λ t. t ∷ qs) (piece_is q))
+          ∙ ap (λ es. Node (ops.Text (q ∷ qs)) (parts es)) (parts_mean first' qs r h)
+          ∙ ap (λ row. Node (ops.Text (q ∷ qs)) row) (row_again r (all_good qs r h));
+      is_derived = chunks_are_derived first' qs r h refl;
+      levels = refl;
+      bares = refl;
+      reads = λ n g p rest ws c seam after.
+          let w = piece_yield n (piece_token q) in
+          let close = token n free kinds.TextClose ∷ [] in
+          subst (λ u. Lexes p g ((codes "\"" ++ interpolated (q ∷ qs) (texts (layouts r)) ++ codes "\"") ++ rest) ((token n g (kinds.TextOpen DoubleQuoted) ∷ u ++ close) ++ ws)) (sym (chunks_written n first' qs r h))
+          (subst (λ t. Lexes p g ((codes "\"" ++ t ++ codes "\"") ++ rest) ((token n g (kinds.TextOpen DoubleQuoted) ∷ (w ++ later_written n qs r) ++ close) ++ ws)) (sym (texts_shape q qs r h))
+          (regrouped p g (codes "\"") ((escape q ++ later_text qs r) ∷ codes "\"" ∷ []) rest (token n g (kinds.TextOpen DoubleQuoted) ∷ []) ((w ++ later_written n qs r) ∷ close ∷ []) ws
+          (give p g 34 [] ((escape q ++ later_text qs r) ++ 34 ∷ rest) (kinds.TextOpen DoubleQuoted) n ((w ++ later_written n qs r) ++ token n free kinds.TextClose ∷ ws) c (λ b. tt) refl refl refl
+          (λ at. subst (λ t. Lexes (Among DoubleQuoted at p) false t ((w ++ later_written n qs r) ++ token n free kinds.TextClose ∷ ws)) (sym (append_assoc (escape q) (later_text qs r) (34 ∷ rest)))
+          (subst (λ t. Lexes (Among DoubleQuoted at p) false (escape q ++ (later_text qs r ++ 34 ∷ rest)) t) (sym (append_assoc w (later_written n qs r) (token n free kinds.TextClose ∷ ws)))
+          (piece_lexes at p q _ n _ good.0.0 good.0.1 (later_stops qs r rest) (later_reads at p qs r rest n ws good.1 h after)))))));
     }

@@ -24,14 +24,15 @@ pub bracket_reads : (k m : ℕ) (t : List ℕ) (e : Derivation) → Reads k t e 
 bracket_reads k m t e h n g p rest ws c s after =
     regrouped p g (codes "(") (t ∷ codes ")" ∷ []) rest (mark n g marks.ParenOpen ∷ []) (yield (suc n) free e ∷ (mark n free marks.ParenClose ∷ []) ∷ []) ws
     (give p g 40 [] _ (kinds.Mark marks.ParenOpen) n _ c (λ b. tt) refl refl refl
-     (λ at. h (suc n) free p (41 ∷ rest) _ c refl
-      (give p false 41 [] rest (kinds.Mark marks.ParenClose) n ws c (λ b. tt) refl refl refl (λ at. after))))
+    (λ at. h (suc n) free p (41 ∷ rest) _ c refl
+    (give p false 41 [] rest (kinds.Mark marks.ParenClose) n ws c (λ b. tt) refl refl refl (λ at. after))))
 
 pub raised : (k m : ℕ) (rest : List ℕ) → nat_lt k m ≡ false → is_seam m rest ≡ true → is_seam k rest ≡ true
 raised k m rest low h = by (is_ending (first rest)) (nat_le 16 m) (nat_le 16 k) (is_selection rest) more h
   where
     more : nat_le 16 m ≡ true → nat_le 16 k ≡ true
     more e = grind (arith, nat_tests)
+
     by : (a b c s : Bool) → (b ≡ true → c ≡ true) → (a || (b && s)) ≡ true → (a || (c && s)) ≡ true
     by true b c s more h = refl
     by false true c s more h = ap (λ (t : Bool). t && s) (more refl) ∙ h
@@ -45,10 +46,10 @@ fits m e t g top =
     by : (b : Bool) → nat_lt (binds t) m ≡ b → Fits m (if b then bracketed (layout e).text else (layout e).text) e (if b then d.brackets t else t)
     by true is = record { means = g.means; is_derived = g.is_derived; level = top; reads = bracket_reads (binds t) m (layout e).text t g.reads }
     by false is = record {
-        means = g.means;
-        is_derived = g.is_derived;
-        level = grind (arith, nat_tests);
-        reads = λ n gap p rest ws c s after. g.reads n gap p rest ws c (raised (binds t) m rest is s) after
+      means = g.means;
+      is_derived = g.is_derived;
+      level = grind (arith, nat_tests);
+      reads = λ n gap p rest ws c s after. g.reads n gap p rest ws c (raised (binds t) m rest is s) after;
     }
 
 -- any expression
@@ -69,6 +70,7 @@ annotated_fits e t g =
     inner : (b : Bool) → is_special t ≡ false → is_special (if b then d.brackets t else t) ≡ false
     inner true is = refl
     inner false is = is
+
     by : (b : Bool) → is_special t ≡ b → Fits 1 (if b then bracketed (layout e).text else at 1 (layout e)) e (if b then d.brackets t else at_tree 1 t) × (is_special (if b then d.brackets t else at_tree 1 t) ≡ false)
     by true is = (record { means = g.means; is_derived = g.is_derived; level = refl; reads = bracket_reads (binds t) 1 (layout e).text t g.reads }, refl)
     by false is = (fits 1 e t g refl, inner (nat_lt (binds t) 1) is)

@@ -43,22 +43,22 @@ good_lambda x a b s t q ga gb =
     let fa = whole a s ga in
     let fb = whole b t gb in
     record {
-        means = let m = fa.means in let k = fb.means in let l = label_is x in cc;
-        is_derived = both fa.is_derived fb.is_derived;
-        levels = refl;
-        bares = refl;
-        reads = λ n g p rest ws c seam after.
-            regrouped p g lambda (codes "(" ∷ label x ∷ codes " : " ∷ at 0 (layout a) ∷ codes ") " ∷ arrow ∷ codes " " ∷ at 0 (layout b) ∷ []) rest
-            (mark n g marks.Lambda ∷ mark n free marks.ParenOpen ∷ name n free (label_token x) ∷ mark n free marks.Colon ∷ [])
-            (yield (suc n) apart s ∷ (mark n free marks.ParenClose ∷ mark n free marks.Arrow ∷ yield (suc n) free t) ∷ []) ws
-            (give p g 0xCE (0xBB ∷ []) _ (kinds.Mark marks.Lambda) n _ c (λ b. tt) refl refl refl (λ at.
-             give p false 40 [] _ (kinds.Mark marks.ParenOpen) n _ c (λ b. tt) refl refl refl (λ at.
-             label_token_read p false x _ n _ c q refl
-             (mid p false 58 [] _ (kinds.Mark marks.Colon) n _ c (λ b. tt) (λ at. refl) refl refl refl
-             (fa.reads (suc n) true p _ _ c refl
-             (give p false 41 [] _ (kinds.Mark marks.ParenClose) n _ c (λ b. tt) refl refl refl (λ at.
-             mid p false 0xE2 (0x86 ∷ 0x92 ∷ []) _ (kinds.Mark marks.Arrow) n _ c (λ b. tt) (λ at. refl) refl refl refl
-             (loose p _ _ (fb.reads (suc n) false p rest ws c seam after)))))))))
+      means = let m = fa.means in let k = fb.means in let l = label_is x in cc;
+      is_derived = both fa.is_derived fb.is_derived;
+      levels = refl;
+      bares = refl;
+      reads = λ n g p rest ws c seam after.
+          regrouped p g lambda (codes "(" ∷ label x ∷ codes " : " ∷ at 0 (layout a) ∷ codes ") " ∷ arrow ∷ codes " " ∷ at 0 (layout b) ∷ []) rest
+          (mark n g marks.Lambda ∷ mark n free marks.ParenOpen ∷ name n free (label_token x) ∷ mark n free marks.Colon ∷ [])
+          (yield (suc n) apart s ∷ (mark n free marks.ParenClose ∷ mark n free marks.Arrow ∷ yield (suc n) free t) ∷ []) ws
+          (give p g 0xCE (0xBB ∷ []) _ (kinds.Mark marks.Lambda) n _ c (λ b. tt) refl refl refl (λ at.
+          give p false 40 [] _ (kinds.Mark marks.ParenOpen) n _ c (λ b. tt) refl refl refl (λ at.
+          label_token_read p false x _ n _ c q refl
+          (mid p false 58 [] _ (kinds.Mark marks.Colon) n _ c (λ b. tt) (λ at. refl) refl refl refl
+          (fa.reads (suc n) true p _ _ c refl
+          (give p false 41 [] _ (kinds.Mark marks.ParenClose) n _ c (λ b. tt) refl refl refl (λ at.
+          mid p false 0xE2 (0x86 ∷ 0x92 ∷ []) _ (kinds.Mark marks.Arrow) n _ c (λ b. tt) (λ at. refl) refl refl refl
+          (loose p _ _ (fb.reads (suc n) false p rest ws c seam after)))))))));
     }
 
 pub good_application : (a b : Term) (s t : Derivation) → Good a s → Good b t
@@ -67,14 +67,14 @@ good_application a b s t ga gb =
     let fa = fits 14 a s ga refl in
     let fb = fits 15 b t gb refl in
     record {
-        means = let m = fa.means in let k = fb.means in cc;
-        is_derived = both (both (both fa.level fb.level) fa.is_derived) fb.is_derived;
-        levels = refl;
-        bares = refl;
-        reads = λ n g p rest ws c seam after.
-            regrouped p g (at 14 (layout a)) (codes " " ∷ at 15 (layout b) ∷ []) rest
-            (yield n g (at_tree 14 s)) (yield n apart (at_tree 15 t) ∷ []) ws
-            (fa.reads n g p _ _ c refl (space p _ _ c (fb.reads n true p rest ws c seam after)))
+      means = let m = fa.means in let k = fb.means in cc;
+      is_derived = both (both (both fa.level fb.level) fa.is_derived) fb.is_derived;
+      levels = refl;
+      bares = refl;
+      reads = λ n g p rest ws c seam after.
+          regrouped p g (at 14 (layout a)) (codes " " ∷ at 15 (layout b) ∷ []) rest
+          (yield n g (at_tree 14 s)) (yield n apart (at_tree 15 t) ∷ []) ws
+          (fa.reads n g p _ _ c refl (space p _ _ c (fb.reads n true p rest ws c seam after)));
     }
 
 pub good_choice : (a b e : Term) (s t u : Derivation) → Good a s → Good b t → Good e u
@@ -84,14 +84,14 @@ good_choice a b e s t u ga gb ge =
     let fb = whole b t gb in
     let fc = whole e u ge in
     record {
-        means = let m = fa.means in let k = fb.means in let l = fc.means in cc;
-        is_derived = both (both fa.is_derived fb.is_derived) fc.is_derived;
-        levels = refl;
-        bares = refl;
-        reads = λ n g p rest ws c seam after.
-            regrouped p g (codes "if ") (at 0 (layout a) ∷ codes " then " ∷ at 0 (layout b) ∷ codes " else " ∷ at 0 (layout e) ∷ []) rest
-            (keyword n g keywords.If ∷ []) (yield (suc n) apart s ∷ (keyword n free keywords.Then ∷ yield (suc n) apart t) ∷ (keyword n free keywords.Else ∷ yield (suc n) apart u) ∷ []) ws
-            (front_word p g (codes "if") _ (kinds.Keyword keywords.If) n _ c refl refl (λ b. tt) (λ at. refl) (fa.reads (suc n) true p _ _ c refl (mid_word p false (codes "then") _ (kinds.Keyword keywords.Then) n _ c refl refl (λ b. tt) (λ at. refl) (fb.reads (suc n) true p _ _ c refl (mid_word p false (codes "else") _ (kinds.Keyword keywords.Else) n _ c refl refl (λ b. tt) (λ at. refl) (fc.reads (suc n) true p rest ws c seam after))))))
+      means = let m = fa.means in let k = fb.means in let l = fc.means in cc;
+      is_derived = both (both fa.is_derived fb.is_derived) fc.is_derived;
+      levels = refl;
+      bares = refl;
+      reads = λ n g p rest ws c seam after.
+          regrouped p g (codes "if ") (at 0 (layout a) ∷ codes " then " ∷ at 0 (layout b) ∷ codes " else " ∷ at 0 (layout e) ∷ []) rest
+          (keyword n g keywords.If ∷ []) (yield (suc n) apart s ∷ (keyword n free keywords.Then ∷ yield (suc n) apart t) ∷ (keyword n free keywords.Else ∷ yield (suc n) apart u) ∷ []) ws
+          (front_word p g (codes "if") _ (kinds.Keyword keywords.If) n _ c refl refl (λ b. tt) (λ at. refl) (fa.reads (suc n) true p _ _ c refl (mid_word p false (codes "then") _ (kinds.Keyword keywords.Then) n _ c refl refl (λ b. tt) (λ at. refl) (fb.reads (suc n) true p _ _ c refl (mid_word p false (codes "else") _ (kinds.Keyword keywords.Else) n _ c refl refl (λ b. tt) (λ at. refl) (fc.reads (suc n) true p rest ws c seam after))))));
     }
 
 pub good_empty_list : (a : Term) (s : Derivation) → Good a s
@@ -99,14 +99,14 @@ pub good_empty_list : (a : Term) (s : Derivation) → Good a s
 good_empty_list a s ga =
     let fa = whole a s ga in
     record {
-        means = let m = fa.means in cc;
-        is_derived = fa.is_derived;
-        levels = refl;
-        bares = refl;
-        reads = λ n g p rest ws c seam after.
-            regrouped p g (codes "[] : ") (at 0 (layout a) ∷ []) rest
-            (mark n g marks.BracketOpen ∷ mark n free marks.BracketClose ∷ mark n free marks.Colon ∷ []) (yield (suc n) apart s ∷ []) ws
-            (give p g 91 [] _ (kinds.Mark (marks.BracketOpen)) n _ c (λ b. tt) refl refl refl (λ at. give p false 93 [] _ (kinds.Mark (marks.BracketClose)) n _ c (λ b. tt) refl refl refl (λ at. mid p false 58 [] _ (kinds.Mark (marks.Colon)) n _ c (λ b. tt) (λ at. refl) refl refl refl (fa.reads (suc n) true p rest ws c seam after))))
+      means = let m = fa.means in cc;
+      is_derived = fa.is_derived;
+      levels = refl;
+      bares = refl;
+      reads = λ n g p rest ws c seam after.
+          regrouped p g (codes "[] : ") (at 0 (layout a) ∷ []) rest
+          (mark n g marks.BracketOpen ∷ mark n free marks.BracketClose ∷ mark n free marks.Colon ∷ []) (yield (suc n) apart s ∷ []) ws
+          (give p g 91 [] _ (kinds.Mark (marks.BracketOpen)) n _ c (λ b. tt) refl refl refl (λ at. give p false 93 [] _ (kinds.Mark (marks.BracketClose)) n _ c (λ b. tt) refl refl refl (λ at. mid p false 58 [] _ (kinds.Mark (marks.Colon)) n _ c (λ b. tt) (λ at. refl) refl refl refl (fa.reads (suc n) true p rest ws c seam after))));
     }
 
 pub good_some : (a : Term) (s : Derivation) → Good a s
@@ -114,14 +114,14 @@ pub good_some : (a : Term) (s : Derivation) → Good a s
 good_some a s ga =
     let fa = fits 15 a s ga refl in
     record {
-        means = let m = fa.means in cc;
-        is_derived = both fa.level fa.is_derived;
-        levels = refl;
-        bares = refl;
-        reads = λ n g p rest ws c seam after.
-            regrouped p g (codes "Some ") (at 15 (layout a) ∷ []) rest
-            (keyword n g keywords.Some ∷ []) (yield n apart (at_tree 15 s) ∷ []) ws
-            (front_word p g (codes "Some") _ (kinds.Keyword keywords.Some) n _ c refl refl (λ b. tt) (λ at. refl) (fa.reads n true p rest ws c seam after))
+      means = let m = fa.means in cc;
+      is_derived = both fa.level fa.is_derived;
+      levels = refl;
+      bares = refl;
+      reads = λ n g p rest ws c seam after.
+          regrouped p g (codes "Some ") (at 15 (layout a) ∷ []) rest
+          (keyword n g keywords.Some ∷ []) (yield n apart (at_tree 15 s) ∷ []) ws
+          (front_word p g (codes "Some") _ (kinds.Keyword keywords.Some) n _ c refl refl (λ b. tt) (λ at. refl) (fa.reads n true p rest ws c seam after));
     }
 
 pub good_to_map : (a : Term) (s : Derivation) → Good a s
@@ -129,14 +129,14 @@ pub good_to_map : (a : Term) (s : Derivation) → Good a s
 good_to_map a s ga =
     let fa = fits 15 a s ga refl in
     record {
-        means = let m = fa.means in cc;
-        is_derived = both fa.level fa.is_derived;
-        levels = refl;
-        bares = refl;
-        reads = λ n g p rest ws c seam after.
-            regrouped p g (codes "toMap ") (at 15 (layout a) ∷ []) rest
-            (keyword n g keywords.ToMap ∷ []) (yield n apart (at_tree 15 s) ∷ []) ws
-            (front_word p g (codes "toMap") _ (kinds.Keyword keywords.ToMap) n _ c refl refl (λ b. tt) (λ at. refl) (fa.reads n true p rest ws c seam after))
+      means = let m = fa.means in cc;
+      is_derived = both fa.level fa.is_derived;
+      levels = refl;
+      bares = refl;
+      reads = λ n g p rest ws c seam after.
+          regrouped p g (codes "toMap ") (at 15 (layout a) ∷ []) rest
+          (keyword n g keywords.ToMap ∷ []) (yield n apart (at_tree 15 s) ∷ []) ws
+          (front_word p g (codes "toMap") _ (kinds.Keyword keywords.ToMap) n _ c refl refl (λ b. tt) (λ at. refl) (fa.reads n true p rest ws c seam after));
     }
 
 pub good_merge : (a b : Term) (s t : Derivation) → Good a s → Good b t
@@ -145,14 +145,14 @@ good_merge a b s t ga gb =
     let fa = fits 15 a s ga refl in
     let fb = fits 15 b t gb refl in
     record {
-        means = let m = fa.means in let k = fb.means in cc;
-        is_derived = both (both (both fa.level fb.level) fa.is_derived) fb.is_derived;
-        levels = refl;
-        bares = refl;
-        reads = λ n g p rest ws c seam after.
-            regrouped p g (codes "merge ") (at 15 (layout a) ∷ codes " " ∷ at 15 (layout b) ∷ []) rest
-            (keyword n g keywords.Merge ∷ []) (yield n apart (at_tree 15 s) ∷ yield n apart (at_tree 15 t) ∷ []) ws
-            (front_word p g (codes "merge") _ (kinds.Keyword keywords.Merge) n _ c refl refl (λ b. tt) (λ at. refl) (fa.reads n true p _ _ c refl (space p _ _ c (fb.reads n true p rest ws c seam after))))
+      means = let m = fa.means in let k = fb.means in cc;
+      is_derived = both (both (both fa.level fb.level) fa.is_derived) fb.is_derived;
+      levels = refl;
+      bares = refl;
+      reads = λ n g p rest ws c seam after.
+          regrouped p g (codes "merge ") (at 15 (layout a) ∷ codes " " ∷ at 15 (layout b) ∷ []) rest
+          (keyword n g keywords.Merge ∷ []) (yield n apart (at_tree 15 s) ∷ yield n apart (at_tree 15 t) ∷ []) ws
+          (front_word p g (codes "merge") _ (kinds.Keyword keywords.Merge) n _ c refl refl (λ b. tt) (λ at. refl) (fa.reads n true p _ _ c refl (space p _ _ c (fb.reads n true p rest ws c seam after))));
     }
 
 pub good_merge_as : (a b e : Term) (s t u : Derivation) → Good a s → Good b t → Good e u
@@ -162,14 +162,14 @@ good_merge_as a b e s t u ga gb ge =
     let fb = fits 15 b t gb refl in
     let fc = whole e u ge in
     record {
-        means = let m = fa.means in let k = fb.means in let l = fc.means in cc;
-        is_derived = both (both (both (both fa.level fb.level) fa.is_derived) fb.is_derived) fc.is_derived;
-        levels = refl;
-        bares = refl;
-        reads = λ n g p rest ws c seam after.
-            regrouped p g (codes "merge ") (at 15 (layout a) ∷ codes " " ∷ at 15 (layout b) ∷ codes " : " ∷ at 0 (layout e) ∷ []) rest
-            (keyword n g keywords.Merge ∷ []) (yield n apart (at_tree 15 s) ∷ yield n apart (at_tree 15 t) ∷ (mark n free marks.Colon ∷ yield (suc n) apart u) ∷ []) ws
-            (front_word p g (codes "merge") _ (kinds.Keyword keywords.Merge) n _ c refl refl (λ b. tt) (λ at. refl) (fa.reads n true p _ _ c refl (space p _ _ c (fb.reads n true p _ _ c refl (mid p false 58 [] _ (kinds.Mark (marks.Colon)) n _ c (λ b. tt) (λ at. refl) refl refl refl (fc.reads (suc n) true p rest ws c seam after))))))
+      means = let m = fa.means in let k = fb.means in let l = fc.means in cc;
+      is_derived = both (both (both (both fa.level fb.level) fa.is_derived) fb.is_derived) fc.is_derived;
+      levels = refl;
+      bares = refl;
+      reads = λ n g p rest ws c seam after.
+          regrouped p g (codes "merge ") (at 15 (layout a) ∷ codes " " ∷ at 15 (layout b) ∷ codes " : " ∷ at 0 (layout e) ∷ []) rest
+          (keyword n g keywords.Merge ∷ []) (yield n apart (at_tree 15 s) ∷ yield n apart (at_tree 15 t) ∷ (mark n free marks.Colon ∷ yield (suc n) apart u) ∷ []) ws
+          (front_word p g (codes "merge") _ (kinds.Keyword keywords.Merge) n _ c refl refl (λ b. tt) (λ at. refl) (fa.reads n true p _ _ c refl (space p _ _ c (fb.reads n true p _ _ c refl (mid p false 58 [] _ (kinds.Mark (marks.Colon)) n _ c (λ b. tt) (λ at. refl) refl refl refl (fc.reads (suc n) true p rest ws c seam after))))));
     }
 
 pub good_to_map_as : (a b : Term) (s t : Derivation) → Good a s → Good b t
@@ -178,14 +178,14 @@ good_to_map_as a b s t ga gb =
     let fa = fits 15 a s ga refl in
     let fb = whole b t gb in
     record {
-        means = let m = fa.means in let k = fb.means in cc;
-        is_derived = both (both fa.level fa.is_derived) fb.is_derived;
-        levels = refl;
-        bares = refl;
-        reads = λ n g p rest ws c seam after.
-            regrouped p g (codes "toMap ") (at 15 (layout a) ∷ codes " : " ∷ at 0 (layout b) ∷ []) rest
-            (keyword n g keywords.ToMap ∷ []) (yield n apart (at_tree 15 s) ∷ (mark n free marks.Colon ∷ yield (suc n) apart t) ∷ []) ws
-            (front_word p g (codes "toMap") _ (kinds.Keyword keywords.ToMap) n _ c refl refl (λ b. tt) (λ at. refl) (fa.reads n true p _ _ c refl (mid p false 58 [] _ (kinds.Mark (marks.Colon)) n _ c (λ b. tt) (λ at. refl) refl refl refl (fb.reads (suc n) true p rest ws c seam after))))
+      means = let m = fa.means in let k = fb.means in cc;
+      is_derived = both (both fa.level fa.is_derived) fb.is_derived;
+      levels = refl;
+      bares = refl;
+      reads = λ n g p rest ws c seam after.
+          regrouped p g (codes "toMap ") (at 15 (layout a) ∷ codes " : " ∷ at 0 (layout b) ∷ []) rest
+          (keyword n g keywords.ToMap ∷ []) (yield n apart (at_tree 15 s) ∷ (mark n free marks.Colon ∷ yield (suc n) apart t) ∷ []) ws
+          (front_word p g (codes "toMap") _ (kinds.Keyword keywords.ToMap) n _ c refl refl (λ b. tt) (λ at. refl) (fa.reads n true p _ _ c refl (mid p false 58 [] _ (kinds.Mark (marks.Colon)) n _ c (λ b. tt) (λ at. refl) refl refl refl (fb.reads (suc n) true p rest ws c seam after))));
     }
 
 pub good_assertion : (a : Term) (s : Derivation) → Good a s
@@ -193,14 +193,14 @@ pub good_assertion : (a : Term) (s : Derivation) → Good a s
 good_assertion a s ga =
     let fa = whole a s ga in
     record {
-        means = let m = fa.means in cc;
-        is_derived = fa.is_derived;
-        levels = refl;
-        bares = refl;
-        reads = λ n g p rest ws c seam after.
-            regrouped p g (codes "assert : ") (at 0 (layout a) ∷ []) rest
-            (keyword n g keywords.Assert ∷ mark n free marks.Colon ∷ []) (yield (suc n) apart s ∷ []) ws
-            (word p g (codes "assert") _ (kinds.Keyword keywords.Assert) n _ c refl refl refl (λ b. tt) (λ at. refl) (mid p false 58 [] _ (kinds.Mark (marks.Colon)) n _ c (λ b. tt) (λ at. refl) refl refl refl (fa.reads (suc n) true p rest ws c seam after)))
+      means = let m = fa.means in cc;
+      is_derived = fa.is_derived;
+      levels = refl;
+      bares = refl;
+      reads = λ n g p rest ws c seam after.
+          regrouped p g (codes "assert : ") (at 0 (layout a) ∷ []) rest
+          (keyword n g keywords.Assert ∷ mark n free marks.Colon ∷ []) (yield (suc n) apart s ∷ []) ws
+          (word p g (codes "assert") _ (kinds.Keyword keywords.Assert) n _ c refl refl refl (λ b. tt) (λ at. refl) (mid p false 58 [] _ (kinds.Mark (marks.Colon)) n _ c (λ b. tt) (λ at. refl) refl refl refl (fa.reads (suc n) true p rest ws c seam after)));
     }
 
 pub good_annotation : (a b : Term) (s t : Derivation) → Good a s → Good b t
@@ -210,14 +210,14 @@ good_annotation a b s t ga gb =
     let fa = ff.0 in
     let fb = whole b t gb in
     record {
-        means = let m = fa.means in let k = fb.means in cc;
-        is_derived = both (both (both fa.level (ap not ff.1)) fa.is_derived) fb.is_derived;
-        levels = refl;
-        bares = refl;
-        reads = λ n g p rest ws c seam after.
-            regrouped p g (annotated (layout a)) (codes " : " ∷ at 0 (layout b) ∷ []) rest
-            (yield n g (annotated_tree s)) ((mark n free marks.Colon ∷ yield (suc n) apart t) ∷ []) ws
-            (fa.reads n g p _ _ c refl (mid p false 58 [] _ (kinds.Mark (marks.Colon)) n _ c (λ b. tt) (λ at. refl) refl refl refl (fb.reads (suc n) true p rest ws c seam after)))
+      means = let m = fa.means in let k = fb.means in cc;
+      is_derived = both (both (both fa.level (ap not ff.1)) fa.is_derived) fb.is_derived;
+      levels = refl;
+      bares = refl;
+      reads = λ n g p rest ws c seam after.
+          regrouped p g (annotated (layout a)) (codes " : " ∷ at 0 (layout b) ∷ []) rest
+          (yield n g (annotated_tree s)) ((mark n free marks.Colon ∷ yield (suc n) apart t) ∷ []) ws
+          (fa.reads n g p _ _ c refl (mid p false 58 [] _ (kinds.Mark (marks.Colon)) n _ c (λ b. tt) (λ at. refl) refl refl refl (fb.reads (suc n) true p rest ws c seam after)));
     }
 
 pub good_let : (x : Name) (a b : Term) (s t : Derivation) → list_all is_quoted_label_byte x ≡ true → Good a s → Good b t
@@ -226,14 +226,14 @@ good_let x a b s t q ga gb =
     let fa = whole a s ga in
     let fb = whole b t gb in
     record {
-        means = let m = fa.means in let k = fb.means in let l = label_is x in cc;
-        is_derived = both fa.is_derived fb.is_derived;
-        levels = refl;
-        bares = refl;
-        reads = λ n g p rest ws c seam after.
-            regrouped p g (codes "let ") (label x ∷ codes " = " ∷ at 0 (layout a) ∷ codes " in " ∷ at 0 (layout b) ∷ []) rest
-            (keyword n g keywords.Let ∷ name n apart (label_token x) ∷ []) ((mark n free marks.Equals ∷ yield (suc n) free s) ∷ (keyword n apart keywords.In ∷ yield (suc n) apart t) ∷ []) ws
-            (front_word p g (codes "let") _ (kinds.Keyword keywords.Let) n _ c refl refl (λ b. tt) (λ at. refl) (label_token_read p true x _ n _ c q refl (mid p false 61 [] _ (kinds.Mark (marks.Equals)) n _ c (λ b. tt) (λ at. refl) refl refl refl (loose p _ _ (fa.reads (suc n) false p _ _ c refl (mid_word p true (codes "in") _ (kinds.Keyword keywords.In) n _ c refl refl (λ b. tt) (λ at. refl) (fb.reads (suc n) true p rest ws c seam after)))))))
+      means = let m = fa.means in let k = fb.means in let l = label_is x in cc;
+      is_derived = both fa.is_derived fb.is_derived;
+      levels = refl;
+      bares = refl;
+      reads = λ n g p rest ws c seam after.
+          regrouped p g (codes "let ") (label x ∷ codes " = " ∷ at 0 (layout a) ∷ codes " in " ∷ at 0 (layout b) ∷ []) rest
+          (keyword n g keywords.Let ∷ name n apart (label_token x) ∷ []) ((mark n free marks.Equals ∷ yield (suc n) free s) ∷ (keyword n apart keywords.In ∷ yield (suc n) apart t) ∷ []) ws
+          (front_word p g (codes "let") _ (kinds.Keyword keywords.Let) n _ c refl refl (λ b. tt) (λ at. refl) (label_token_read p true x _ n _ c q refl (mid p false 61 [] _ (kinds.Mark (marks.Equals)) n _ c (λ b. tt) (λ at. refl) refl refl refl (loose p _ _ (fa.reads (suc n) false p _ _ c refl (mid_word p true (codes "in") _ (kinds.Keyword keywords.In) n _ c refl refl (λ b. tt) (λ at. refl) (fb.reads (suc n) true p rest ws c seam after)))))));
     }
 
 pub good_let_typed : (x : Name) (a b e : Term) (s t u : Derivation) → list_all is_quoted_label_byte x ≡ true → Good a s → Good b t → Good e u
@@ -243,16 +243,15 @@ good_let_typed x a b e s t u q ga gb ge =
     let fb = whole b t gb in
     let fc = whole e u ge in
     record {
-        means = let m = fa.means in let k = fb.means in let j = fc.means in let l = label_is x in cc;
-        is_derived = both (both fa.is_derived fb.is_derived) fc.is_derived;
-        levels = refl;
-        bares = refl;
-        reads = λ n g p rest ws c seam after.
-            regrouped p g (codes "let ") (label x ∷ codes " : " ∷ at 0 (layout a) ∷ codes " = " ∷ at 0 (layout b) ∷ codes " in " ∷ at 0 (layout e) ∷ []) rest
-            (keyword n g keywords.Let ∷ name n apart (label_token x) ∷ mark n free marks.Colon ∷ []) (yield (suc n) apart s ∷ (mark n free marks.Equals ∷ yield (suc n) free t) ∷ (keyword n apart keywords.In ∷ yield (suc n) apart u) ∷ []) ws
-            (front_word p g (codes "let") _ (kinds.Keyword keywords.Let) n _ c refl refl (λ b. tt) (λ at. refl) (label_token_read p true x _ n _ c q refl (mid p false 58 [] _ (kinds.Mark (marks.Colon)) n _ c (λ b. tt) (λ at. refl) refl refl refl (fa.reads (suc n) true p _ _ c refl (mid p false 61 [] _ (kinds.Mark (marks.Equals)) n _ c (λ b. tt) (λ at. refl) refl refl refl (loose p _ _ (fb.reads (suc n) false p _ _ c refl (mid_word p true (codes "in") _ (kinds.Keyword keywords.In) n _ c refl refl (λ b. tt) (λ at. refl) (fc.reads (suc n) true p rest ws c seam after)))))))))
+      means = let m = fa.means in let k = fb.means in let j = fc.means in let l = label_is x in cc;
+      is_derived = both (both fa.is_derived fb.is_derived) fc.is_derived;
+      levels = refl;
+      bares = refl;
+      reads = λ n g p rest ws c seam after.
+          regrouped p g (codes "let ") (label x ∷ codes " : " ∷ at 0 (layout a) ∷ codes " = " ∷ at 0 (layout b) ∷ codes " in " ∷ at 0 (layout e) ∷ []) rest
+          (keyword n g keywords.Let ∷ name n apart (label_token x) ∷ mark n free marks.Colon ∷ []) (yield (suc n) apart s ∷ (mark n free marks.Equals ∷ yield (suc n) free t) ∷ (keyword n apart keywords.In ∷ yield (suc n) apart u) ∷ []) ws
+          (front_word p g (codes "let") _ (kinds.Keyword keywords.Let) n _ c refl refl (λ b. tt) (λ at. refl) (label_token_read p true x _ n _ c q refl (mid p false 58 [] _ (kinds.Mark (marks.Colon)) n _ c (λ b. tt) (λ at. refl) refl refl refl (fa.reads (suc n) true p _ _ c refl (mid p false 61 [] _ (kinds.Mark (marks.Equals)) n _ c (λ b. tt) (λ at. refl) refl refl refl (loose p _ _ (fb.reads (suc n) false p _ _ c refl (mid_word p true (codes "in") _ (kinds.Keyword keywords.In) n _ c refl refl (λ b. tt) (λ at. refl) (fc.reads (suc n) true p rest ws c seam after)))))))));
     }
-
 
 -- a function type by whether its binder is `_`
 record GoodAs (e : Term) (l : Layout) (t : Derivation) : Type 0 where
@@ -282,15 +281,15 @@ good_arrow x a b s t q ga gb =
     let fa = fits 1 a s ga refl in
     let fb = whole b t gb in
     record {
-        means = let m = fa.means in let k = fb.means in cc;
-        is_derived = both (both fa.level fa.is_derived) fb.is_derived;
-        levels = refl;
-        bares = refl;
-        reads = λ n g p rest ws c seam after.
-            regrouped p g (at 1 (layout a)) (codes " " ∷ arrow ∷ codes " " ∷ at 0 (layout b) ∷ []) rest (yield n g (at_tree 1 s)) ((mark n free marks.Arrow ∷ yield (suc n) free t) ∷ []) ws
-            (fa.reads n g p _ _ c refl
-             (mid p false 0xE2 (0x86 ∷ 0x92 ∷ []) _ (kinds.Mark marks.Arrow) n _ c (λ b. tt) (λ at. refl) refl refl refl
-              (loose p _ _ (fb.reads (suc n) false p rest ws c seam after))))
+      means = let m = fa.means in let k = fb.means in cc;
+      is_derived = both (both fa.level fa.is_derived) fb.is_derived;
+      levels = refl;
+      bares = refl;
+      reads = λ n g p rest ws c seam after.
+          regrouped p g (at 1 (layout a)) (codes " " ∷ arrow ∷ codes " " ∷ at 0 (layout b) ∷ []) rest (yield n g (at_tree 1 s)) ((mark n free marks.Arrow ∷ yield (suc n) free t) ∷ []) ws
+          (fa.reads n g p _ _ c refl
+          (mid p false 0xE2 (0x86 ∷ 0x92 ∷ []) _ (kinds.Mark marks.Arrow) n _ c (λ b. tt) (λ at. refl) refl refl refl
+          (loose p _ _ (fb.reads (suc n) false p rest ws c seam after))));
     }
 
 good_forall : (x : Name) (a b : Term) (s t : Derivation) → list_all is_quoted_label_byte x ≡ true → Good a s → Good b t
@@ -299,22 +298,22 @@ good_forall x a b s t q ga gb =
     let fa = whole a s ga in
     let fb = whole b t gb in
     record {
-        means = let m = fa.means in let k = fb.means in let l = label_is x in cc;
-        is_derived = both fa.is_derived fb.is_derived;
-        levels = refl;
-        bares = refl;
-        reads = λ n g p rest ws c seam after.
-            regrouped p g forall (codes "(" ∷ label x ∷ codes " : " ∷ at 0 (layout a) ∷ codes ") " ∷ arrow ∷ codes " " ∷ at 0 (layout b) ∷ []) rest
-            (mark n g marks.Forall ∷ mark n free marks.ParenOpen ∷ name n free (label_token x) ∷ mark n free marks.Colon ∷ [])
-            (yield (suc n) apart s ∷ (mark n free marks.ParenClose ∷ mark n free marks.Arrow ∷ yield (suc n) free t) ∷ []) ws
-            (give p g 0xE2 (0x88 ∷ 0x80 ∷ []) _ (kinds.Mark marks.Forall) n _ c (λ b. tt) refl refl refl (λ at.
-             give p false 40 [] _ (kinds.Mark marks.ParenOpen) n _ c (λ b. tt) refl refl refl (λ at.
-             label_token_read p false x _ n _ c q refl
-             (mid p false 58 [] _ (kinds.Mark marks.Colon) n _ c (λ b. tt) (λ at. refl) refl refl refl
-             (fa.reads (suc n) true p _ _ c refl
-             (give p false 41 [] _ (kinds.Mark marks.ParenClose) n _ c (λ b. tt) refl refl refl (λ at.
-             mid p false 0xE2 (0x86 ∷ 0x92 ∷ []) _ (kinds.Mark marks.Arrow) n _ c (λ b. tt) (λ at. refl) refl refl refl
-             (loose p _ _ (fb.reads (suc n) false p rest ws c seam after)))))))))
+      means = let m = fa.means in let k = fb.means in let l = label_is x in cc;
+      is_derived = both fa.is_derived fb.is_derived;
+      levels = refl;
+      bares = refl;
+      reads = λ n g p rest ws c seam after.
+          regrouped p g forall (codes "(" ∷ label x ∷ codes " : " ∷ at 0 (layout a) ∷ codes ") " ∷ arrow ∷ codes " " ∷ at 0 (layout b) ∷ []) rest
+          (mark n g marks.Forall ∷ mark n free marks.ParenOpen ∷ name n free (label_token x) ∷ mark n free marks.Colon ∷ [])
+          (yield (suc n) apart s ∷ (mark n free marks.ParenClose ∷ mark n free marks.Arrow ∷ yield (suc n) free t) ∷ []) ws
+          (give p g 0xE2 (0x88 ∷ 0x80 ∷ []) _ (kinds.Mark marks.Forall) n _ c (λ b. tt) refl refl refl (λ at.
+          give p false 40 [] _ (kinds.Mark marks.ParenOpen) n _ c (λ b. tt) refl refl refl (λ at.
+          label_token_read p false x _ n _ c q refl
+          (mid p false 58 [] _ (kinds.Mark marks.Colon) n _ c (λ b. tt) (λ at. refl) refl refl refl
+          (fa.reads (suc n) true p _ _ c refl
+          (give p false 41 [] _ (kinds.Mark marks.ParenClose) n _ c (λ b. tt) refl refl refl (λ at.
+          mid p false 0xE2 (0x86 ∷ 0x92 ∷ []) _ (kinds.Mark marks.Arrow) n _ c (λ b. tt) (λ at. refl) refl refl refl
+          (loose p _ _ (fb.reads (suc n) false p rest ws c seam after)))))))));
     }
 
 pub good_function : (x : Name) (a b : Term) (s t : Derivation) → list_all is_quoted_label_byte x ≡ true → Good a s → Good b t
@@ -339,15 +338,15 @@ spaced : (o : BinOp) (b : ℕ) (x : List ℕ) (l r : List ℕ) (s t : Derivation
 spaced o b x l r s t calm stays brace line e up left h k n g p rest ws c seam after =
     regrouped p g l (codes " " ∷ (b ∷ x) ∷ codes " " ∷ r ∷ []) rest (yield n g s) ((mark n free (marks.Operator o) ∷ yield n (gap_after o) t) ∷ []) ws
     (h n g p _ _ c (left (b ∷ x ++ 32 ∷ (r ++ rest)))
-     (mid p false b x (r ++ rest) (kinds.Mark (marks.Operator o)) n _ c calm (λ at. stays at p) brace (line (r ++ rest)) (e (r ++ rest))
-      (any_gap (gap_after o) p _ _ (k n (gap_after o) p rest ws c (up rest seam) after))))
+    (mid p false b x (r ++ rest) (kinds.Mark (marks.Operator o)) n _ c calm (λ at. stays at p) brace (line (r ++ rest)) (e (r ++ rest))
+    (any_gap (gap_after o) p _ _ (k n (gap_after o) p rest ws c (up rest seam) after))))
 
 complete : (l r : List ℕ) (s t : Derivation) → Reads 16 l s → Reads 16 r t → Reads 15 (l ++ codes "::" ++ r) (d.operation binary.Complete s t)
 complete l r s t h k n g p rest ws c seam after =
     regrouped p g l (codes "::" ∷ r ∷ []) rest (yield n g s) ((mark n free (marks.Operator binary.Complete) ∷ yield n free t) ∷ []) ws
     (h n g p _ _ c refl
-     (give p false 58 (58 ∷ []) _ (kinds.Mark (marks.Operator binary.Complete)) n _ c (λ b. tt) refl refl refl (λ at.
-      k n false p rest ws c (raised 16 15 rest refl seam) after)))
+    (give p false 58 (58 ∷ []) _ (kinds.Mark (marks.Operator binary.Complete)) n _ c (λ b. tt) refl refl refl (λ at.
+    k n false p rest ws c (raised 16 15 rest refl seam) after)))
 
 operator_reads : (o : BinOp) (a b : Layout) (s t : Derivation) → Reads (left_level o) (at (left_level o) a) s → Reads (suc (level_of o)) (at (suc (level_of o)) b) t → Reads (level_of o) (operation o a b).text (d.operation o s t)
 operator_reads binary.Complete a b s t h k = complete (at 16 a) (at 16 b) s t h k
@@ -387,33 +386,43 @@ good_operation o a b s t ga gb =
     let fa = fits (left_level o) a s ga facts.2 in
     let fb = fits (suc (level_of o)) b t gb facts.3 in
     record {
-        means = let m = fa.means in let k = fb.means in cc;
-        is_derived = both (both (both fa.level (facts.4 _ fb.level)) fa.is_derived) fb.is_derived;
-        levels = facts.0;
-        bares = facts.1;
-        reads = operator_reads o (layout a) (layout b) (at_tree (left_level o) s) (at_tree (suc (level_of o)) t) fa.reads fb.reads
+      means = let m = fa.means in let k = fb.means in cc;
+      is_derived = both (both (both fa.level (facts.4 _ fb.level)) fa.is_derived) fb.is_derived;
+      levels = facts.0;
+      bares = facts.1;
+      reads = operator_reads o (layout a) (layout b) (at_tree (left_level o) s) (at_tree (suc (level_of o)) t) fa.reads fb.reads;
     }
 
 -- leaves
 pub good_integer : (z : ℤ) → integer_fits z ≡ true → Good (Node (ops.Int z) end) (d.integer z)
 good_integer z h = record {
-    means = refl;
-    is_derived = refl;
-    levels = refl;
-    bares = refl;
-    reads = λ n g p rest ws c seam after.
-        let f = integer_front z rest h (to_sixteen 17 rest seam) in
-        let other : (k : ℕ) → is_sign k ≡ false → eqb k f.sign ≡ false = λ k h. ne_eqb k f.sign (λ same. both_ways (is_sign k) h (ap is_sign same ∙ f.is_sign')) in
-        let brace : eqb f.sign 125 ≡ false = ne_eqb f.sign 125 (λ same. both_ways (is_sign 125) refl (sym (ap is_sign same) ∙ f.is_sign')) in
-        subst (λ t. Lexes p g (t ++ rest) (token n g (kinds.Integer z) ∷ ws)) (sym f.written)
-        (give p g f.sign f.digits rest (kinds.Integer z) n ws c (λ b. tt) brace (and_left (eqb 35 f.sign) _ (other 35 refl)) f.read (λ at. after))
+  means = refl;
+  is_derived = refl;
+  levels = refl;
+  bares = refl;
+  reads = λ n g p rest ws c seam after.
+      let f = integer_front z rest h (to_sixteen 17 rest seam) in
+      let other : (k : ℕ) → is_sign k ≡ false → eqb k f.sign ≡ false = λ k h. ne_eqb k f.sign (λ same. both_ways (is_sign k) h (ap is_sign same ∙ f.is_sign')) in
+      let brace : eqb f.sign 125 ≡ false = ne_eqb f.sign 125 (λ same. both_ways (is_sign 125) refl (sym (ap is_sign same) ∙ f.is_sign')) in
+      subst (λ t. Lexes p g (t ++ rest) (token n g (kinds.Integer z) ∷ ws)) (sym f.written)
+      (give p g f.sign f.digits rest (kinds.Integer z) n ws c (λ b. tt) brace (and_left (eqb 35 f.sign) _ (other 35 refl)) f.read (λ at. after));
 }
 
 pub good_truth : (b : Bool) → Good (Node (ops.Bool b) end) (d.truth b)
-good_truth true = record { means = refl; is_derived = refl; levels = refl; bares = refl;
-    reads = λ n g p rest ws c seam after. word p g (codes "True") rest (kinds.Bool true) n ws c refl refl (name_ends 17 rest seam) (λ b. tt) (λ at. refl) after }
-good_truth false = record { means = refl; is_derived = refl; levels = refl; bares = refl;
-    reads = λ n g p rest ws c seam after. word p g (codes "False") rest (kinds.Bool false) n ws c refl refl (name_ends 17 rest seam) (λ b. tt) (λ at. refl) after }
+good_truth true = record {
+  means = refl;
+  is_derived = refl;
+  levels = refl;
+  bares = refl;
+  reads = λ n g p rest ws c seam after. word p g (codes "True") rest (kinds.Bool true) n ws c refl refl (name_ends 17 rest seam) (λ b. tt) (λ at. refl) after;
+}
+good_truth false = record {
+  means = refl;
+  is_derived = refl;
+  levels = refl;
+  bares = refl;
+  reads = λ n g p rest ws c seam after. word p g (codes "False") rest (kinds.Bool false) n ws c refl refl (name_ends 17 rest seam) (λ b. tt) (λ at. refl) after;
+}
 
 pub builtin_word : (b : Builtin) → (is_word (builtin_name b) ≡ true) × (named (builtin_name b) ≡ Is (kinds.Builtin b))
 builtin_word builtins.TypeConst = (refl, refl)
@@ -448,8 +457,13 @@ builtin_word builtins.TextShow = (refl, refl)
 builtin_word builtins.TextReplace = (refl, refl)
 
 pub good_builtin : (b : Builtin) → Good (Node (ops.Builtin b) end) (d.builtin b)
-good_builtin b = record { means = refl; is_derived = refl; levels = refl; bares = refl;
-    reads = λ n g p rest ws c seam after. word p g (builtin_name b) rest (kinds.Builtin b) n ws c (builtin_word b).0 (builtin_word b).1 (name_ends 17 rest seam) (λ b. tt) (λ at. refl) after }
+good_builtin b = record {
+  means = refl;
+  is_derived = refl;
+  levels = refl;
+  bares = refl;
+  reads = λ n g p rest ws c seam after. word p g (builtin_name b) rest (kinds.Builtin b) n ws c (builtin_word b).0 (builtin_word b).1 (name_ends 17 rest seam) (λ b. tt) (λ at. refl) after;
+}
 
 pub good_project_by : (a b : Term) (s t : Derivation) → Good a s → Good b t
     → Good (Node ops.ProjectType (kid None a (kid None b end))) (d.project_by (at_tree 16 s) t)
@@ -457,14 +471,14 @@ good_project_by a b s t ga gb =
     let fa = fits 16 a s ga refl in
     let fb = whole b t gb in
     record {
-        means = let m = fa.means in let k = fb.means in cc;
-        is_derived = both (both fa.level fa.is_derived) fb.is_derived;
-        levels = refl;
-        bares = refl;
-        reads = λ n g p rest ws c seam after.
-            regrouped p g (at 16 (layout a)) (codes ".(" ∷ at 0 (layout b) ∷ codes ")" ∷ []) rest
-            (yield n g (at_tree 16 s)) ((mark n free marks.Dot ∷ mark n free marks.ParenOpen ∷ yield (suc n) free t) ∷ (mark n free marks.ParenClose ∷ []) ∷ []) ws
-            (fa.reads n g p _ _ c refl (give p false 46 [] _ (kinds.Mark (marks.Dot)) n _ c (λ b. tt) refl refl refl (λ at. give p false 40 [] _ (kinds.Mark (marks.ParenOpen)) n _ c (λ b. tt) refl refl refl (λ at. fb.reads (suc n) false p _ _ c refl (give p false 41 [] _ (kinds.Mark (marks.ParenClose)) n _ c (λ b. tt) refl refl refl (λ at. after))))))
+      means = let m = fa.means in let k = fb.means in cc;
+      is_derived = both (both fa.level fa.is_derived) fb.is_derived;
+      levels = refl;
+      bares = refl;
+      reads = λ n g p rest ws c seam after.
+          regrouped p g (at 16 (layout a)) (codes ".(" ∷ at 0 (layout b) ∷ codes ")" ∷ []) rest
+          (yield n g (at_tree 16 s)) ((mark n free marks.Dot ∷ mark n free marks.ParenOpen ∷ yield (suc n) free t) ∷ (mark n free marks.ParenClose ∷ []) ∷ []) ws
+          (fa.reads n g p _ _ c refl (give p false 46 [] _ (kinds.Mark (marks.Dot)) n _ c (λ b. tt) refl refl refl (λ at. give p false 40 [] _ (kinds.Mark (marks.ParenOpen)) n _ c (λ b. tt) refl refl refl (λ at. fb.reads (suc n) false p _ _ c refl (give p false 41 [] _ (kinds.Mark (marks.ParenClose)) n _ c (λ b. tt) refl refl refl (λ at. after))))));
     }
 
 pub good_project_none : (a : Term) (s : Derivation) → Good a s
@@ -472,14 +486,14 @@ pub good_project_none : (a : Term) (s : Derivation) → Good a s
 good_project_none a s ga =
     let fa = fits 16 a s ga refl in
     record {
-        means = let m = fa.means in cc;
-        is_derived = both fa.level fa.is_derived;
-        levels = refl;
-        bares = refl;
-        reads = λ n g p rest ws c seam after.
-            regrouped p g (at 16 (layout a)) (codes "." ∷ codes "{}" ∷ []) rest
-            (yield n g (at_tree 16 s)) ((mark n free marks.Dot ∷ mark n free marks.BraceOpen ∷ []) ∷ (mark n free marks.BraceClose ∷ []) ∷ []) ws
-            (fa.reads n g p _ _ c refl (give p false 46 [] _ (kinds.Mark (marks.Dot)) n _ c (λ b. tt) refl refl refl (λ at. open_brace p false _ n _ c refl (close_brace p false rest n ws c after))))
+      means = let m = fa.means in cc;
+      is_derived = both fa.level fa.is_derived;
+      levels = refl;
+      bares = refl;
+      reads = λ n g p rest ws c seam after.
+          regrouped p g (at 16 (layout a)) (codes "." ∷ codes "{}" ∷ []) rest
+          (yield n g (at_tree 16 s)) ((mark n free marks.Dot ∷ mark n free marks.BraceOpen ∷ []) ∷ (mark n free marks.BraceClose ∷ []) ∷ []) ws
+          (fa.reads n g p _ _ c refl (give p false 46 [] _ (kinds.Mark (marks.Dot)) n _ c (λ b. tt) refl refl refl (λ at. open_brace p false _ n _ c refl (close_brace p false rest n ws c after))));
     }
 
 pub good_field : (x : Name) (a : Term) (s : Derivation) → list_all is_quoted_label_byte x ≡ true → Good a s
@@ -487,25 +501,25 @@ pub good_field : (x : Name) (a : Term) (s : Derivation) → list_all is_quoted_l
 good_field x a s q ga =
     let fa = fits 16 a s ga refl in
     record {
-        means = let m = fa.means in let l = label_is x in cc;
-        is_derived = both fa.level fa.is_derived;
-        levels = refl;
-        bares = refl;
-        reads = λ n g p rest ws c seam after.
-            regrouped p g (at 16 (layout a)) (codes "." ∷ label x ∷ []) rest
-            (yield n g (at_tree 16 s)) ((mark n free marks.Dot ∷ name n free (label_token x) ∷ []) ∷ []) ws
-            (fa.reads n g p _ _ c (dot_seam x rest) (dot_label p x rest n _ c (label_token_read p false x rest n ws c q (name_ends 16 rest seam) after)))
+      means = let m = fa.means in let l = label_is x in cc;
+      is_derived = both fa.level fa.is_derived;
+      levels = refl;
+      bares = refl;
+      reads = λ n g p rest ws c seam after.
+          regrouped p g (at 16 (layout a)) (codes "." ∷ label x ∷ []) rest
+          (yield n g (at_tree 16 s)) ((mark n free marks.Dot ∷ name n free (label_token x) ∷ []) ∷ []) ws
+          (fa.reads n g p _ _ c (dot_seam x rest) (dot_label p x rest n _ c (label_token_read p false x rest n ws c q (name_ends 16 rest seam) after)));
     }
 
 pub good_natural : (i : ℕ) → i < 2 ^ 128 → Good (Node (ops.Nat i) end) (d.natural i)
 good_natural i h = record {
-    means = refl;
-    is_derived = refl;
-    levels = refl;
-    bares = refl;
-    reads = λ n g p rest ws c seam after.
-        let f = natural_front i rest h (to_sixteen 17 rest seam) in
-        by (decimal i) f.0 f.1 rest n g p ws c f.2 f.3 f.4 after
+  means = refl;
+  is_derived = refl;
+  levels = refl;
+  bares = refl;
+  reads = λ n g p rest ws c seam after.
+      let f = natural_front i rest h (to_sixteen 17 rest seam) in
+      by (decimal i) f.0 f.1 rest n g p ws c f.2 f.3 f.4 after;
 }
   where
     by : (ds : List ℕ) (b : ℕ) (x rest : List ℕ) (n : ℕ) (g : Bool) (p : Place) (ws : List Written) → IsCode p → ds ≡ b ∷ x → is_ascii_digit b ≡ true
@@ -522,16 +536,30 @@ braced_code (Interpolated braces f from p) c = tt
 braced_code (Among f from p) c = absurd c
 
 pub good_empty_record_type : Good (Node (ops.RecordType []) end) (d.record_type_none false)
-good_empty_record_type = record { means = refl; is_derived = refl; levels = refl; bares = refl;
-    reads = λ n g p rest ws c seam after. open_brace p g _ n _ c refl (close_brace p false rest n ws c after) }
+good_empty_record_type = record {
+  means = refl;
+  is_derived = refl;
+  levels = refl;
+  bares = refl;
+  reads = λ n g p rest ws c seam after. open_brace p g _ n _ c refl (close_brace p false rest n ws c after);
+}
 
 pub good_empty_record : Good (Node (ops.Record []) end) (d.record_none false false)
-good_empty_record = record { means = refl; is_derived = refl; levels = refl; bares = refl;
-    reads = λ n g p rest ws c seam after. open_brace p g _ n _ c refl
-        (give (braced_place p) false 61 [] _ (kinds.Mark marks.Equals) n _ (braced_code p c) (λ b. tt) refl refl refl (λ at. close_brace p false rest n ws c after)) }
+good_empty_record = record {
+  means = refl;
+  is_derived = refl;
+  levels = refl;
+  bares = refl;
+  reads = λ n g p rest ws c seam after. open_brace p g _ n _ c refl
+      (give (braced_place p) false 61 [] _ (kinds.Mark marks.Equals) n _ (braced_code p c) (λ b. tt) refl refl refl (λ at. close_brace p false rest n ws c after));
+}
 
 pub good_empty_union : Good (Node (ops.Union []) end) (d.union_none false)
-good_empty_union = record { means = refl; is_derived = refl; levels = refl; bares = refl;
-    reads = λ n g p rest ws c seam after. give p g 60 [] _ (kinds.Mark marks.AngleOpen) n _ c (λ b. tt) refl refl refl (λ at.
-        give p false 62 [] rest (kinds.Mark marks.AngleClose) n ws c (λ b. tt) refl refl refl (λ at. after)) }
-
+good_empty_union = record {
+  means = refl;
+  is_derived = refl;
+  levels = refl;
+  bares = refl;
+  reads = λ n g p rest ws c seam after. give p g 60 [] _ (kinds.Mark marks.AngleOpen) n _ c (λ b. tt) refl refl refl (λ at.
+      give p false 62 [] rest (kinds.Mark marks.AngleClose) n ws c (λ b. tt) refl refl refl (λ at. after));
+}

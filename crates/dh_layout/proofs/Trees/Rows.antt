@@ -51,7 +51,7 @@ more_read s v (q ∷ qs) sep seam all p rest ws c e h =
     let inner = more_read s v qs sep seam all.1 p rest ws c e h in
     let here = all.0 p (more_text s qs ++ rest) (more_written v qs ++ ws) c (more_seam s qs rest seam e) inner in
     let texts' : (s ++ (q.text ++ more_text s qs)) ++ rest ≡ s ++ (q.text ++ (more_text s qs ++ rest)) =
-        append_assoc s (q.text ++ more_text s qs) rest ∙ ap (λ t. s ++ t) (append_assoc q.text (more_text s qs) rest) in
+    append_assoc s (q.text ++ more_text s qs) rest ∙ ap (λ t. s ++ t) (append_assoc q.text (more_text s qs) rest) in
     let written : (q.written ++ more_written v qs) ++ ws ≡ q.written ++ (more_written v qs ++ ws) = append_assoc q.written (more_written v qs) ws in
     subst (λ t. Lexes p false t (v ∷ ((q.written ++ more_written v qs) ++ ws))) (sym texts')
     (subst (λ w. Lexes p false (s ++ (q.text ++ (more_text s qs ++ rest))) (v ∷ w)) (sym written) (sep p _ _ c here))
@@ -63,7 +63,7 @@ row_read s v q qs sep seam one all p rest ws c e h =
     let inner = one p (more_text s qs ++ rest) (more_written v qs ++ ws) c (more_seam s qs rest seam e) (more_read s v qs sep seam all p rest ws c e h) in
     subst (λ t. Lexes p false (t ++ rest) ((q.written ++ more_written v qs) ++ ws)) (sym (separated_is s q qs))
     (subst (λ t. Lexes p false t ((q.written ++ more_written v qs) ++ ws)) (sym (append_assoc q.text (more_text s qs) rest))
-     (subst (λ w. Lexes p false (q.text ++ (more_text s qs ++ rest)) w) (sym (append_assoc q.written (more_written v qs) ws)) inner))
+    (subst (λ w. Lexes p false (q.text ++ (more_text s qs ++ rest)) w) (sym (append_assoc q.written (more_written v qs) ws)) inner))
 
 comma : (n : ℕ) → Separates (codes ", ") (mark n free marks.Comma)
 comma n p rest ws c h = give p false 44 [] _ (kinds.Mark marks.Comma) n ws c (λ b. tt) refl refl refl (λ at. space p rest ws c (loose p rest ws h))
@@ -119,22 +119,22 @@ good_list e r ge gr =
     let t = tree_of e in
     let first' = d.one_item t in
     record {
-        means = ap (λ es. Node ops.List (parts es)) (items_mean first' r gr ∙ ap (λ u. u ∷ terms_of r) ge.means) ∙ ap (λ row. Node ops.List (kid None e row)) (row_again r gr);
-        is_derived = items_are_derived first' r gr ge.is_derived;
-        levels = refl;
-        bares = refl;
-        reads = λ n g p rest ws c seam after.
-            let q = piece (at 0 (layout e)) (yield (suc n) free t) in
-            let qs = item_pieces n r in
-            let row = row_read (codes ", ") (mark n free marks.Comma) q qs (comma n) (λ t. refl) (λ p rest ws c seam after. (whole e t ge).reads (suc n) false p rest ws c seam after) (items_read n r gr) in
-            subst (λ w. Lexes p g (list_text (texts (layouts (kid None e r))) ++ rest) ((mark n g marks.BracketOpen ∷ w ++ [] ++ mark n free marks.BracketClose ∷ []) ++ ws)) (sym (items_written n first' r gr))
-            (subst (λ ts. Lexes p g (list_text (at 0 (layout e) ∷ ts) ++ rest) ((mark n g marks.BracketOpen ∷ (q.written ++ more_written (mark n free marks.Comma) qs) ++ [] ++ mark n free marks.BracketClose ∷ []) ++ ws)) (sym (texts_are n r))
-             (regrouped p g (codes "[ ") (separated (codes ", ") (piece_texts (q ∷ qs)) ∷ codes " ]" ∷ []) rest (mark n g marks.BracketOpen ∷ []) ((q.written ++ more_written (mark n free marks.Comma) qs) ∷ [] ∷ (mark n free marks.BracketClose ∷ []) ∷ []) ws
-              (give p g 91 [] _ (kinds.Mark marks.BracketOpen) n _ c (λ b. tt) refl refl refl (λ at.
-               space p _ _ c (loose p _ _
-               (row p _ _ c refl
-               (space p _ _ c (loose p _ _
-               (give p false 93 [] rest (kinds.Mark marks.BracketClose) n ws c (λ b. tt) refl refl refl (λ at. after))))))))))
+      means = ap (λ es. Node ops.List (parts es)) (items_mean first' r gr ∙ ap (λ u. u ∷ terms_of r) ge.means) ∙ ap (λ row. Node ops.List (kid None e row)) (row_again r gr);
+      is_derived = items_are_derived first' r gr ge.is_derived;
+      levels = refl;
+      bares = refl;
+      reads = λ n g p rest ws c seam after.
+          let q = piece (at 0 (layout e)) (yield (suc n) free t) in
+          let qs = item_pieces n r in
+          let row = row_read (codes ", ") (mark n free marks.Comma) q qs (comma n) (λ t. refl) (λ p rest ws c seam after. (whole e t ge).reads (suc n) false p rest ws c seam after) (items_read n r gr) in
+          subst (λ w. Lexes p g (list_text (texts (layouts (kid None e r))) ++ rest) ((mark n g marks.BracketOpen ∷ w ++ [] ++ mark n free marks.BracketClose ∷ []) ++ ws)) (sym (items_written n first' r gr))
+          (subst (λ ts. Lexes p g (list_text (at 0 (layout e) ∷ ts) ++ rest) ((mark n g marks.BracketOpen ∷ (q.written ++ more_written (mark n free marks.Comma) qs) ++ [] ++ mark n free marks.BracketClose ∷ []) ++ ws)) (sym (texts_are n r))
+          (regrouped p g (codes "[ ") (separated (codes ", ") (piece_texts (q ∷ qs)) ∷ codes " ]" ∷ []) rest (mark n g marks.BracketOpen ∷ []) ((q.written ++ more_written (mark n free marks.Comma) qs) ∷ [] ∷ (mark n free marks.BracketClose ∷ []) ∷ []) ws
+          (give p g 91 [] _ (kinds.Mark marks.BracketOpen) n _ c (λ b. tt) refl refl refl (λ at.
+          space p _ _ c (loose p _ _
+          (row p _ _ c refl
+          (space p _ _ c (loose p _ _
+          (give p false 93 [] rest (kinds.Mark marks.BracketClose) n ws c (λ b. tt) refl refl refl (λ at. after))))))))));
     }
 
 -- ---- labels
@@ -181,26 +181,26 @@ good_update x xs a b s t q ga gb =
     let parts' = and_parts (list_all is_quoted_label_byte x) (list_all (λ x. list_all is_quoted_label_byte x) xs) q in
     let ks = keys_from (d.one_key (label_key x)) xs in
     record {
-        means = let m = fa.means in let k = fb.means in let l = labels_mean (d.one_key (label_key x)) xs in let j = label_is x in cc;
-        is_derived = both (both (both fa.level fb.level) fa.is_derived) fb.is_derived;
-        levels = refl;
-        bares = refl;
-        reads = λ n g p rest ws c seam after.
-            let key' = piece (label x) [] in
-            let qs = key_pieces n xs in
-            let shown = separated_is (codes ".") key' qs in
-            subst (λ ts. Lexes p g ((at 15 (layout a) ++ codes " with " ++ separated (codes ".") (label x ∷ ts) ++ codes " = " ++ at 1 (layout b)) ++ rest) (yield n g (d.updates (d.one_update (at_tree 15 s) ks (at_tree 1 t))) ++ ws)) (sym (key_texts n xs))
-            (subst (λ path. Lexes p g ((at 15 (layout a) ++ codes " with " ++ path ++ codes " = " ++ at 1 (layout b)) ++ rest) (yield n g (d.updates (d.one_update (at_tree 15 s) ks (at_tree 1 t))) ++ ws)) (sym shown)
-             (subst (λ w. Lexes p g ((at 15 (layout a) ++ codes " with " ++ (label x ++ more_text (codes ".") qs) ++ codes " = " ++ at 1 (layout b)) ++ rest) ((yield n g (at_tree 15 s) ++ keyword n apart keywords.With ∷ w ++ mark n free marks.Equals ∷ yield n free (at_tree 1 t)) ++ ws)) (sym (keys_written n apart marks.Dot (d.one_key (label_key x)) xs))
-              (regrouped p g (at 15 (layout a)) (codes " with " ∷ (label x ++ more_text (codes ".") qs) ∷ codes " = " ∷ at 1 (layout b) ∷ []) rest
-                (yield n g (at_tree 15 s)) ((keyword n apart keywords.With ∷ name n apart (label_token x) ∷ more_written (mark n free marks.Dot) qs) ∷ (mark n free marks.Equals ∷ yield n free (at_tree 1 t)) ∷ []) ws
-               (fa.reads n g p _ _ c refl
-                (mid_word p true (codes "with") _ (kinds.Keyword keywords.With) n _ c refl refl (λ b. tt) (λ at. refl)
-                 (text_regrouped p true (label x) (more_text (codes ".") qs ∷ []) _ _
-                  (label_token_read p true x _ n _ c parts'.0 (path_end n xs _ refl)
-                   (path_read n xs p _ _ parts'.1 c refl
-                    (mid p false 61 [] _ (kinds.Mark marks.Equals) n _ c (λ b. tt) (λ at. refl) refl refl refl
-                     (loose p _ _ (fb.reads n false p rest ws c seam after)))))))))))
+      means = let m = fa.means in let k = fb.means in let l = labels_mean (d.one_key (label_key x)) xs in let j = label_is x in cc;
+      is_derived = both (both (both fa.level fb.level) fa.is_derived) fb.is_derived;
+      levels = refl;
+      bares = refl;
+      reads = λ n g p rest ws c seam after.
+          let key' = piece (label x) [] in
+          let qs = key_pieces n xs in
+          let shown = separated_is (codes ".") key' qs in
+          subst (λ ts. Lexes p g ((at 15 (layout a) ++ codes " with " ++ separated (codes ".") (label x ∷ ts) ++ codes " = " ++ at 1 (layout b)) ++ rest) (yield n g (d.updates (d.one_update (at_tree 15 s) ks (at_tree 1 t))) ++ ws)) (sym (key_texts n xs))
+          (subst (λ path. Lexes p g ((at 15 (layout a) ++ codes " with " ++ path ++ codes " = " ++ at 1 (layout b)) ++ rest) (yield n g (d.updates (d.one_update (at_tree 15 s) ks (at_tree 1 t))) ++ ws)) (sym shown)
+          (subst (λ w. Lexes p g ((at 15 (layout a) ++ codes " with " ++ (label x ++ more_text (codes ".") qs) ++ codes " = " ++ at 1 (layout b)) ++ rest) ((yield n g (at_tree 15 s) ++ keyword n apart keywords.With ∷ w ++ mark n free marks.Equals ∷ yield n free (at_tree 1 t)) ++ ws)) (sym (keys_written n apart marks.Dot (d.one_key (label_key x)) xs))
+          (regrouped p g (at 15 (layout a)) (codes " with " ∷ (label x ++ more_text (codes ".") qs) ∷ codes " = " ∷ at 1 (layout b) ∷ []) rest
+          (yield n g (at_tree 15 s)) ((keyword n apart keywords.With ∷ name n apart (label_token x) ∷ more_written (mark n free marks.Dot) qs) ∷ (mark n free marks.Equals ∷ yield n free (at_tree 1 t)) ∷ []) ws
+          (fa.reads n g p _ _ c refl
+          (mid_word p true (codes "with") _ (kinds.Keyword keywords.With) n _ c refl refl (λ b. tt) (λ at. refl)
+          (text_regrouped p true (label x) (more_text (codes ".") qs ∷ []) _ _
+          (label_token_read p true x _ n _ c parts'.0 (path_end n xs _ refl)
+          (path_read n xs p _ _ parts'.1 c refl
+          (mid p false 61 [] _ (kinds.Mark marks.Equals) n _ c (λ b. tt) (λ at. refl) refl refl refl
+          (loose p _ _ (fb.reads n false p rest ws c seam after)))))))))));
     }
 
 -- ---- rows in the order of their labels
@@ -335,8 +335,8 @@ pub type_read : (n : ℕ) (x : Name) (e : Term) → list_all is_quoted_label_byt
 type_read n x e q g p rest ws c seam after =
     text_regrouped p false (label x) (codes " : " ∷ at 0 (layout e) ∷ []) rest _
     (label_token_read p false x _ n _ c q refl
-     (mid p false 58 [] _ (kinds.Mark marks.Colon) n _ c (λ b. tt) (λ at. refl) refl refl refl
-      ((whole e (tree_of e) g).reads (suc n) true p rest ws c seam after)))
+    (mid p false 58 [] _ (kinds.Mark marks.Colon) n _ c (λ b. tt) (λ at. refl) refl refl refl
+    ((whole e (tree_of e) g).reads (suc n) true p rest ws c seam after)))
 
 types_read : (n : ℕ) (xs : List Name) (r : Row Var Name) → list_all (λ x. list_all is_quoted_label_byte x) xs ≡ true → Fit xs r → AllRead (type_pieces n xs r)
 types_read n [] end q h = tt
@@ -354,10 +354,10 @@ braced_read : (n : ℕ) (g : Bool) (p : Place) (t rest : List ℕ) (w ws : List 
 braced_read n g p t rest w ws row c k after =
     regrouped p g (codes "{ ") (t ∷ codes " }" ∷ []) rest (mark n g marks.BraceOpen ∷ []) (w ∷ [] ∷ (mark n free marks.BraceClose ∷ []) ∷ []) ws
     (open_brace p g _ n _ c refl
-     (space (braced_place p) _ _ k (loose (braced_place p) _ _
-      (row (braced_place p) _ _ k refl
-       (space (braced_place p) _ _ k (loose (braced_place p) _ _
-        (close_brace p false rest n ws c after)))))))
+    (space (braced_place p) _ _ k (loose (braced_place p) _ _
+    (row (braced_place p) _ _ k refl
+    (space (braced_place p) _ _ k (loose (braced_place p) _ _
+    (close_brace p false rest n ws c after)))))))
 
 braced_code : (p : Place) → IsCode p → IsCode (braced_place p)
 braced_code Outside c = tt
@@ -374,23 +374,21 @@ good_record_type x xs e r up q ge gr =
     let front : m.fields one ≡ (x, e) ∷ [] = ap (λ n. (n, meaning t) ∷ []) (label_is x) ∙ ap (λ u. (x, u) ∷ []) ge.means in
     let row : m.fields (fields_from one xs (trees_of r)) ≡ (x, e) ∷ zipped xs r = fields_mean one (x ∷ []) xs r (ap m.names front) f gr ∙ ap (λ l. l ++ zipped xs r) front in
     record {
-        means =
-            ap (λ l. Node (ops.RecordType (m.names l)) (parts (m.values l))) row
-            ∙ ap (λ l. Node (ops.RecordType (x ∷ l)) (kid None e (parts (m.values (zipped xs r))))) (zipped_names xs r gr)
-            ∙ ap (λ u. Node (ops.RecordType (x ∷ xs)) (kid None e u)) (zipped_parts xs r gr);
-        is_derived = fields_are_derived one (x ∷ []) xs r (ap (λ n. n ∷ []) (label_is x)) f gr ge.is_derived;
-        levels = refl;
-        bares = refl;
-        reads = λ n g p rest ws c seam after.
-            let q = piece (label x ++ codes " : " ++ at 0 (layout e)) (name n free (label_token x) ∷ mark n free marks.Colon ∷ yield (suc n) apart t) in
-            let qs = type_pieces n xs r in
-            let row = row_read (codes ", ") (mark n free marks.Comma) q qs (comma n) (λ t. refl) (type_read n x e parts'.0 ge) (types_read n xs r parts'.1 gr) in
-            subst (λ w. Lexes p g (braced (printed.fields (codes " : ") (x ∷ xs) (texts (layouts (kid None e r)))) ++ rest) ((mark n g marks.BraceOpen ∷ w ++ [] ++ mark n free marks.BraceClose ∷ []) ++ ws)) (sym (fields_written n one xs r gr))
-            (subst (λ ts. Lexes p g (braced (q.text ∷ ts) ++ rest) ((mark n g marks.BraceOpen ∷ (q.written ++ more_written (mark n free marks.Comma) qs) ++ [] ++ mark n free marks.BraceClose ∷ []) ++ ws)) (sym (type_texts n xs r gr))
-             (braced_read n g p (separated (codes ", ") (piece_texts (q ∷ qs))) rest (q.written ++ more_written (mark n free marks.Comma) qs) ws row c (braced_code p c) after))
+      means =
+          ap (λ l. Node (ops.RecordType (m.names l)) (parts (m.values l))) row
+          ∙ ap (λ l. Node (ops.RecordType (x ∷ l)) (kid None e (parts (m.values (zipped xs r))))) (zipped_names xs r gr)
+          ∙ ap (λ u. Node (ops.RecordType (x ∷ xs)) (kid None e u)) (zipped_parts xs r gr);
+      is_derived = fields_are_derived one (x ∷ []) xs r (ap (λ n. n ∷ []) (label_is x)) f gr ge.is_derived;
+      levels = refl;
+      bares = refl;
+      reads = λ n g p rest ws c seam after.
+          let q = piece (label x ++ codes " : " ++ at 0 (layout e)) (name n free (label_token x) ∷ mark n free marks.Colon ∷ yield (suc n) apart t) in
+          let qs = type_pieces n xs r in
+          let row = row_read (codes ", ") (mark n free marks.Comma) q qs (comma n) (λ t. refl) (type_read n x e parts'.0 ge) (types_read n xs r parts'.1 gr) in
+          subst (λ w. Lexes p g (braced (printed.fields (codes " : ") (x ∷ xs) (texts (layouts (kid None e r)))) ++ rest) ((mark n g marks.BraceOpen ∷ w ++ [] ++ mark n free marks.BraceClose ∷ []) ++ ws)) (sym (fields_written n one xs r gr))
+          (subst (λ ts. Lexes p g (braced (q.text ∷ ts) ++ rest) ((mark n g marks.BraceOpen ∷ (q.written ++ more_written (mark n free marks.Comma) qs) ++ [] ++ mark n free marks.BraceClose ∷ []) ++ ws)) (sym (type_texts n xs r gr))
+          (braced_read n g p (separated (codes ", ") (piece_texts (q ∷ qs))) rest (q.written ++ more_written (mark n free marks.Comma) qs) ws row c (braced_code p c) after));
     }
-
-
 
 -- ---- records
 
@@ -411,7 +409,6 @@ entries_mean es ys (x ∷ xs) (kid None t r) e f h =
     ∙ append_assoc (m.entries es) (pair ∷ []) (zipped xs r)
     ∙ ap (λ n. m.entries es ++ (n, meaning (tree_of t)) ∷ zipped xs r) (label_is x)
     ∙ ap (λ u. m.entries es ++ (x, u) ∷ zipped xs r) h.0.means
-
 
 entries_are_derived : (es : Entries) (xs : List Name) (r : Row Var Name) → Fit xs r → entries_derived es ≡ true → entries_derived (entries_from es xs (trees_of r)) ≡ true
 entries_are_derived es [] end h t = t
@@ -441,8 +438,8 @@ entry_read : (n : ℕ) (x : Name) (e : Term) → list_all is_quoted_label_byte x
 entry_read n x e q g p rest ws c seam after =
     text_regrouped p false (label x) (codes " = " ∷ at 0 (layout e) ∷ []) rest _
     (label_token_read p false x _ n _ c q refl
-     (mid p false 61 [] _ (kinds.Mark marks.Equals) n _ c (λ b. tt) (λ at. refl) refl refl refl
-      (loose p _ _ ((whole e (tree_of e) g).reads (suc n) false p rest ws c seam after))))
+    (mid p false 61 [] _ (kinds.Mark marks.Equals) n _ c (λ b. tt) (λ at. refl) refl refl refl
+    (loose p _ _ ((whole e (tree_of e) g).reads (suc n) false p rest ws c seam after))))
 
 entries_read : (n : ℕ) (xs : List Name) (r : Row Var Name) → list_all (λ x. list_all is_quoted_label_byte x) xs ≡ true → Fit xs r → AllRead (entry_pieces n xs r)
 entries_read n [] end q h = tt
@@ -463,23 +460,21 @@ good_record x xs e r up q ge gr =
     let front : m.entries one ≡ (x, e) ∷ [] = ap (λ n. (n, meaning t) ∷ []) (label_is x) ∙ ap (λ u. (x, u) ∷ []) ge.means in
     let row : m.entries (entries_from one xs (trees_of r)) ≡ (x, e) ∷ zipped xs r = entries_mean one (x ∷ []) xs r (ap m.names front) f gr ∙ ap (λ l. l ++ zipped xs r) front in
     record {
-        means =
-            ap (λ l. Node (ops.Record (m.names l)) (parts (m.values l))) row
-            ∙ ap (λ l. Node (ops.Record (x ∷ l)) (kid None e (parts (m.values (zipped xs r))))) (zipped_names xs r gr)
-            ∙ ap (λ u. Node (ops.Record (x ∷ xs)) (kid None e u)) (zipped_parts xs r gr);
-        is_derived = entries_are_derived one xs r gr ge.is_derived;
-        levels = refl;
-        bares = refl;
-        reads = λ n g p rest ws c seam after.
-            let q = piece (label x ++ codes " = " ++ at 0 (layout e)) (name n free (label_token x) ∷ mark n free marks.Equals ∷ yield (suc n) free t) in
-            let qs = entry_pieces n xs r in
-            let row = row_read (codes ", ") (mark n free marks.Comma) q qs (comma n) (λ t. refl) (entry_read n x e parts'.0 ge) (entries_read n xs r parts'.1 gr) in
-            subst (λ w. Lexes p g (braced (printed.fields (codes " = ") (x ∷ xs) (texts (layouts (kid None e r)))) ++ rest) ((mark n g marks.BraceOpen ∷ w ++ [] ++ mark n free marks.BraceClose ∷ []) ++ ws)) (sym (entries_written n one xs r gr))
-            (subst (λ ts. Lexes p g (braced (q.text ∷ ts) ++ rest) ((mark n g marks.BraceOpen ∷ (q.written ++ more_written (mark n free marks.Comma) qs) ++ [] ++ mark n free marks.BraceClose ∷ []) ++ ws)) (sym (entry_texts n xs r gr))
-             (braced_read n g p (separated (codes ", ") (piece_texts (q ∷ qs))) rest (q.written ++ more_written (mark n free marks.Comma) qs) ws row c (braced_code p c) after))
+      means =
+          ap (λ l. Node (ops.Record (m.names l)) (parts (m.values l))) row
+          ∙ ap (λ l. Node (ops.Record (x ∷ l)) (kid None e (parts (m.values (zipped xs r))))) (zipped_names xs r gr)
+          ∙ ap (λ u. Node (ops.Record (x ∷ xs)) (kid None e u)) (zipped_parts xs r gr);
+      is_derived = entries_are_derived one xs r gr ge.is_derived;
+      levels = refl;
+      bares = refl;
+      reads = λ n g p rest ws c seam after.
+          let q = piece (label x ++ codes " = " ++ at 0 (layout e)) (name n free (label_token x) ∷ mark n free marks.Equals ∷ yield (suc n) free t) in
+          let qs = entry_pieces n xs r in
+          let row = row_read (codes ", ") (mark n free marks.Comma) q qs (comma n) (λ t. refl) (entry_read n x e parts'.0 ge) (entries_read n xs r parts'.1 gr) in
+          subst (λ w. Lexes p g (braced (printed.fields (codes " = ") (x ∷ xs) (texts (layouts (kid None e r)))) ++ rest) ((mark n g marks.BraceOpen ∷ w ++ [] ++ mark n free marks.BraceClose ∷ []) ++ ws)) (sym (entries_written n one xs r gr))
+          (subst (λ ts. Lexes p g (braced (q.text ∷ ts) ++ rest) ((mark n g marks.BraceOpen ∷ (q.written ++ more_written (mark n free marks.Comma) qs) ++ [] ++ mark n free marks.BraceClose ∷ []) ++ ws)) (sym (entry_texts n xs r gr))
+          (braced_read n g p (separated (codes ", ") (piece_texts (q ∷ qs))) rest (q.written ++ more_written (mark n free marks.Comma) qs) ws row c (braced_code p c) after));
     }
-
-
 
 -- ---- projections
 
@@ -509,25 +504,25 @@ good_project x xs a s up q ga =
     let parts' = and_parts (list_all is_quoted_label_byte x) (list_all (λ x. list_all is_quoted_label_byte x) xs) q in
     let front : d.key_label (label_key x) ∷ [] ≡ x ∷ [] = ap (λ n. n ∷ []) (label_is x) in
     record {
-        means = let k = fa.means in let l = sorted_mean one (x ∷ []) xs front f in cc;
-        is_derived = both (both fa.level fa.is_derived) (keys_distinct one (x ∷ []) xs front f refl);
-        levels = refl;
-        bares = refl;
-        reads = λ n g p rest ws c seam after.
-            let q = piece (label x) (name n free (label_token x) ∷ []) in
-            let qs = key_pieces n xs in
-            let row = row_read (codes ", ") (mark n free marks.Comma) q qs (comma n) (λ t. refl) (λ p rest ws c seam after. label_token_read p false x rest n ws c parts'.0 (name_ends 0 rest seam) after) (keys_read n xs parts'.1) in
-            let keys' = q.written ++ more_written (mark n free marks.Comma) qs in
-            let closing = mark n free marks.BraceClose ∷ [] in
-            subst (λ w. Lexes p g ((at 16 (layout a) ++ codes "." ++ braced (label x ∷ map label xs)) ++ rest) ((yield n g (at_tree 16 s) ++ (mark n free marks.Dot ∷ mark n free marks.BraceOpen ∷ []) ++ w ++ [] ++ closing) ++ ws)) (sym (keys_written n free marks.Comma one xs))
-            (subst (λ ts. Lexes p g ((at 16 (layout a) ++ codes "." ++ braced (label x ∷ ts)) ++ rest) ((yield n g (at_tree 16 s) ++ (mark n free marks.Dot ∷ mark n free marks.BraceOpen ∷ []) ++ keys' ++ [] ++ closing) ++ ws)) (sym (key_texts n xs))
-             (regrouped p g (at 16 (layout a)) (codes "." ∷ braced (piece_texts (q ∷ qs)) ∷ []) rest (yield n g (at_tree 16 s)) ((mark n free marks.Dot ∷ mark n free marks.BraceOpen ∷ []) ∷ keys' ∷ [] ∷ closing ∷ []) ws
-              (fa.reads n g p _ _ c refl
-               (give p false 46 [] _ (kinds.Mark marks.Dot) n _ c (λ b. tt) refl refl refl (λ at.
-                text_regrouped p false (codes "{ ") (separated (codes ", ") (piece_texts (q ∷ qs)) ∷ codes " }" ∷ []) rest _
-                 (open_brace p false _ n _ c refl
-                  (space (braced_place p) _ _ (braced_code p c) (loose (braced_place p) _ _
-                   (row (braced_place p) _ _ (braced_code p c) refl
-                    (space (braced_place p) _ _ (braced_code p c) (loose (braced_place p) _ _
-                     (close_brace p false rest n ws c after))))))))))))
+      means = let k = fa.means in let l = sorted_mean one (x ∷ []) xs front f in cc;
+      is_derived = both (both fa.level fa.is_derived) (keys_distinct one (x ∷ []) xs front f refl);
+      levels = refl;
+      bares = refl;
+      reads = λ n g p rest ws c seam after.
+          let q = piece (label x) (name n free (label_token x) ∷ []) in
+          let qs = key_pieces n xs in
+          let row = row_read (codes ", ") (mark n free marks.Comma) q qs (comma n) (λ t. refl) (λ p rest ws c seam after. label_token_read p false x rest n ws c parts'.0 (name_ends 0 rest seam) after) (keys_read n xs parts'.1) in
+          let keys' = q.written ++ more_written (mark n free marks.Comma) qs in
+          let closing = mark n free marks.BraceClose ∷ [] in
+          subst (λ w. Lexes p g ((at 16 (layout a) ++ codes "." ++ braced (label x ∷ map label xs)) ++ rest) ((yield n g (at_tree 16 s) ++ (mark n free marks.Dot ∷ mark n free marks.BraceOpen ∷ []) ++ w ++ [] ++ closing) ++ ws)) (sym (keys_written n free marks.Comma one xs))
+          (subst (λ ts. Lexes p g ((at 16 (layout a) ++ codes "." ++ braced (label x ∷ ts)) ++ rest) ((yield n g (at_tree 16 s) ++ (mark n free marks.Dot ∷ mark n free marks.BraceOpen ∷ []) ++ keys' ++ [] ++ closing) ++ ws)) (sym (key_texts n xs))
+          (regrouped p g (at 16 (layout a)) (codes "." ∷ braced (piece_texts (q ∷ qs)) ∷ []) rest (yield n g (at_tree 16 s)) ((mark n free marks.Dot ∷ mark n free marks.BraceOpen ∷ []) ∷ keys' ∷ [] ∷ closing ∷ []) ws
+          (fa.reads n g p _ _ c refl
+          (give p false 46 [] _ (kinds.Mark marks.Dot) n _ c (λ b. tt) refl refl refl (λ at.
+          text_regrouped p false (codes "{ ") (separated (codes ", ") (piece_texts (q ∷ qs)) ∷ codes " }" ∷ []) rest _
+          (open_brace p false _ n _ c refl
+          (space (braced_place p) _ _ (braced_code p c) (loose (braced_place p) _ _
+          (row (braced_place p) _ _ (braced_code p c) refl
+          (space (braced_place p) _ _ (braced_code p c) (loose (braced_place p) _ _
+          (close_brace p false rest n ws c after))))))))))));
     }

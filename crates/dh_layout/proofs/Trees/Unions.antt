@@ -133,26 +133,26 @@ by_first es one x q e h names' up mean1 pairs' names1 labels1 derived1 pieces' y
     let f = follows x (names_of es) up in
     let mean' : m.alternatives (alternatives_from one (alts_of es) (trees_of (row_of es))) ≡ pairs_of (e ∷ es) = choices_mean one (x ∷ []) es (ap m.names mean1 ∙ names1) f good ∙ ap (λ l. l ++ pairs_of es) mean1 ∙ pairs' in
     record {
-        means = ap (λ l. Node (ops.Union (m.alternatives_of l)) (m.types_of l)) mean' ∙ ap (λ l. Node (ops.Union l) (m.types_of (pairs_of (e ∷ es)))) (again_alts (e ∷ es)) ∙ ap (λ r. Node (ops.Union (alts_of (e ∷ es))) r) (again_row (e ∷ es));
-        is_derived = choices_derived one (x ∷ []) es labels1 f good derived1;
-        levels = ap (λ l. l.level) shown;
-        bares = ap (λ l. l.bare) shown;
-        reads = λ n g p rest ws c seam after.
-            let qs = choice_pieces n es in
-            let row = row_read (codes " | ") (mark n free marks.Bar) (q n) qs (bar n) (λ t. refl) (read1 n) (choices_read n es good) in
-            let w = (q n).written ++ more_written (mark n free marks.Bar) qs in
-            let close = mark n free marks.AngleClose ∷ [] in
-            let texts' : alternatives (alts_of (e ∷ es)) (texts (layouts (row_of (e ∷ es)))) ≡ piece_texts (q n ∷ qs) = choice_texts n (e ∷ es) ∙ ap piece_texts (pieces' n) in
-            let written' : alternatives_yield n (alternatives_from one (alts_of es) (trees_of (row_of es))) ≡ w = choices_written n one es ∙ ap (λ v. v ++ more_written (mark n free marks.Bar) qs) (yield1 n) in
-            subst (λ l. Lexes p g (l.text ++ rest) (yield n g (d.union false (alternatives_from one (alts_of es) (trees_of (row_of es))) false) ++ ws)) (sym shown)
-            (subst (λ t. Lexes p g ((codes "< " ++ separated (codes " | ") t ++ codes " >") ++ rest) (yield n g (d.union false (alternatives_from one (alts_of es) (trees_of (row_of es))) false) ++ ws)) (sym texts')
-             (subst (λ v. Lexes p g ((codes "< " ++ separated (codes " | ") (piece_texts (q n ∷ qs)) ++ codes " >") ++ rest) ((mark n g marks.AngleOpen ∷ v ++ [] ++ close) ++ ws)) (sym written')
-              (regrouped p g (codes "< ") (separated (codes " | ") (piece_texts (q n ∷ qs)) ∷ codes " >" ∷ []) rest (mark n g marks.AngleOpen ∷ []) (w ∷ [] ∷ close ∷ []) ws
-               (give p g 60 [] _ (kinds.Mark marks.AngleOpen) n _ c (λ b. tt) refl refl refl (λ at.
-                space p _ _ c (loose p _ _
-                (row p _ _ c refl
-                (space p _ _ c (loose p _ _
-                (give p false 62 [] rest (kinds.Mark marks.AngleClose) n ws c (λ b. tt) refl refl refl (λ at. after)))))))))))
+      means = ap (λ l. Node (ops.Union (m.alternatives_of l)) (m.types_of l)) mean' ∙ ap (λ l. Node (ops.Union l) (m.types_of (pairs_of (e ∷ es)))) (again_alts (e ∷ es)) ∙ ap (λ r. Node (ops.Union (alts_of (e ∷ es))) r) (again_row (e ∷ es));
+      is_derived = choices_derived one (x ∷ []) es labels1 f good derived1;
+      levels = ap (λ l. l.level) shown;
+      bares = ap (λ l. l.bare) shown;
+      reads = λ n g p rest ws c seam after.
+          let qs = choice_pieces n es in
+          let row = row_read (codes " | ") (mark n free marks.Bar) (q n) qs (bar n) (λ t. refl) (read1 n) (choices_read n es good) in
+          let w = (q n).written ++ more_written (mark n free marks.Bar) qs in
+          let close = mark n free marks.AngleClose ∷ [] in
+          let texts' : alternatives (alts_of (e ∷ es)) (texts (layouts (row_of (e ∷ es)))) ≡ piece_texts (q n ∷ qs) = choice_texts n (e ∷ es) ∙ ap piece_texts (pieces' n) in
+          let written' : alternatives_yield n (alternatives_from one (alts_of es) (trees_of (row_of es))) ≡ w = choices_written n one es ∙ ap (λ v. v ++ more_written (mark n free marks.Bar) qs) (yield1 n) in
+          subst (λ l. Lexes p g (l.text ++ rest) (yield n g (d.union false (alternatives_from one (alts_of es) (trees_of (row_of es))) false) ++ ws)) (sym shown)
+          (subst (λ t. Lexes p g ((codes "< " ++ separated (codes " | ") t ++ codes " >") ++ rest) (yield n g (d.union false (alternatives_from one (alts_of es) (trees_of (row_of es))) false) ++ ws)) (sym texts')
+          (subst (λ v. Lexes p g ((codes "< " ++ separated (codes " | ") (piece_texts (q n ∷ qs)) ++ codes " >") ++ rest) ((mark n g marks.AngleOpen ∷ v ++ [] ++ close) ++ ws)) (sym written')
+          (regrouped p g (codes "< ") (separated (codes " | ") (piece_texts (q n ∷ qs)) ∷ codes " >" ∷ []) rest (mark n g marks.AngleOpen ∷ []) (w ∷ [] ∷ close ∷ []) ws
+          (give p g 60 [] _ (kinds.Mark marks.AngleOpen) n _ c (λ b. tt) refl refl refl (λ at.
+          space p _ _ c (loose p _ _
+          (row p _ _ c refl
+          (space p _ _ c (loose p _ _
+          (give p false 62 [] rest (kinds.Mark marks.AngleClose) n ws c (λ b. tt) refl refl refl (λ at. after)))))))))));
     }
 
 pub good_choices : (e : Choice) (es : List Choice) → AreGoodChoices (e ∷ es) → ascending (names_of (e ∷ es)) ≡ true → Good (Node (ops.Union (alts_of (e ∷ es))) (row_of (e ∷ es))) (node_tree (ops.Union (alts_of (e ∷ es))) (trees_of (row_of (e ∷ es))))

@@ -39,24 +39,27 @@ index_read p i rest n ws c h s after =
         let brace : eqb b 125 ≡ false = ne_eqb b 125 (λ same. both_ways (is_ascii_digit 125) refl (sym (ap is_ascii_digit same) ∙ digit)) in
         let hash : eqb 35 b ≡ false = ne_eqb 35 b (λ same. both_ways (is_ascii_digit 35) refl (ap is_ascii_digit same ∙ digit)) in
         subst (λ t. Lexes p false (64 ∷ t ++ rest) (mark n free marks.At ∷ token n free (kinds.Natural i) ∷ ws)) (sym e)
-        (record { lexes = λ before gap calm gapped at.
-            given p before gap at 64 [] (b ∷ x ++ rest) (kinds.Mark marks.At) n false (token n free (kinds.Natural i) ∷ ws) (form_in_code before p (64 ∷ b ∷ x ++ rest) _ c refl refl refl) (calm_index before (kinds.Mark marks.At) calm) gapped
-            (λ at'. given p (before_after (kinds.Mark marks.At) before) false at' b x rest (kinds.Natural i) n false ws
-                (form_in_code (before_after (kinds.Mark marks.At) before) p (b ∷ x ++ rest) _ c brace (and_left (eqb 35 b) _ hash) f)
-                (narrow (before_after (kinds.Mark marks.At) before) i h) refl (λ at''. after.lexes Other false tt refl at'')) })
+        (record {
+          lexes = λ before gap calm gapped at.
+              given p before gap at 64 [] (b ∷ x ++ rest) (kinds.Mark marks.At) n false (token n free (kinds.Natural i) ∷ ws) (form_in_code before p (64 ∷ b ∷ x ++ rest) _ c refl refl refl) (calm_index before (kinds.Mark marks.At) calm) gapped
+              (λ at'. given p (before_after (kinds.Mark marks.At) before) false at' b x rest (kinds.Natural i) n false ws
+              (form_in_code (before_after (kinds.Mark marks.At) before) p (b ∷ x ++ rest) _ c brace (and_left (eqb 35 b) _ hash) f)
+              (narrow (before_after (kinds.Mark marks.At) before) i h) refl (λ at''. after.lexes Other false tt refl at''));
+        })
 
 pub good_variable : (v : Var) → list_all is_quoted_label_byte v.name ≡ true → v.index ≤ 0x7FFF_FFFF → Good (Leaf v) (variable_tree v)
 good_variable v q h = record {
-    means = by_index (v.index == 0) refl;
-    is_derived = refl;
-    levels = refl;
-    bares = refl;
-    reads = λ n g p rest ws c seam after. reads_by n g p rest ws c seam after (v.index == 0)
+  means = by_index (v.index == 0) refl;
+  is_derived = refl;
+  levels = refl;
+  bares = refl;
+  reads = λ n g p rest ws c seam after. reads_by n g p rest ws c seam after (v.index == 0);
 }
   where
     by_index : (t : Bool) → (v.index == 0) ≡ t → variable_term (d.name_label (label_token v.name)) (if t then None else Some v.index) ≡ Leaf v
     by_index true e = ap (λ x. Leaf (record { name = x; index = 0 })) (label_is v.name) ∙ ap (λ i. Leaf (record { name = v.name; index = i })) (sym (eqb-true v.index 0 e))
     by_index false e = ap (λ x. Leaf (record { name = x; index = v.index })) (label_is v.name)
+
     reads_by : (n : ℕ) (g : Bool) (p : Place) (rest : List ℕ) (ws : List Written) → IsCode p → is_seam 17 rest ≡ true → Lexes p false rest ws → (t : Bool)
         → Lexes p g ((if t then label v.name else label v.name ++ codes "@" ++ decimal v.index) ++ rest) ((name n g (label_token v.name) ∷ index_yield n (if t then None else Some v.index)) ++ ws)
     reads_by n g p rest ws c seam after true = label_token_read p g v.name rest n ws c q (name_ends 17 rest seam) after
