@@ -1,0 +1,5 @@
+pub mod Opening
+pub mod Printed
+pub mod Reading
+pub mod Texts
+pub mod Trees

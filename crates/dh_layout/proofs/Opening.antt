@@ -1,0 +1,4 @@
+pub mod Depths
+pub mod Nestings
+pub mod Openings
+pub mod Opens

@@ -1,0 +1,11 @@
+pub mod Ends
+pub mod Hosts
+pub mod Imports
+pub mod Numbers
+pub mod Paths
+pub mod Pieces
+pub mod Seams
+pub mod Tokens
+pub mod Urls
+pub mod Walk
+pub mod Walks

@@ -1,0 +1,4 @@
+pub mod InValues
+pub mod Noncharacters
+pub mod Utf8
+pub mod Values

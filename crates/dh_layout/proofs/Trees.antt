@@ -1,0 +1,10 @@
+pub mod Chunks
+pub mod Good
+pub mod Levels
+pub mod Nodes
+pub mod Pieces
+pub mod Printing
+pub mod Rows
+pub mod Trees
+pub mod Unions
+pub mod Variables

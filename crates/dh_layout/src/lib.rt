@@ -1,0 +1,4 @@
+//! What reading a printed text answers.
+#![tactic(auto)]
+
+pub mod laws;

@@ -1,0 +1,22 @@
+-- What was printed is parsed, and what was parsed is printed and parsed again.
+use Rattle.std.specs.Prelude.{◌≡◌, ℕ, List, Ok}
+use Rattle.std.proofs.Common.{subst}
+use Rattle.dh_grammar.specs.Parsed.{parsed}
+use Rattle.dh_grammar.proofs.Results.Answering.{parses, parses_once, spells_in_range}
+use Rattle.dh_layout.specs.Answers.{answer}
+use Rattle.dh_layout.proofs.Printed.{printed_parses}
+use Rattle.dh_layout.proofs.Texts.InValues.{values}
+use Rattle.dh_syntax.specs.Expressions.Spellable.{IsSpellable}
+use Rattle.dh_syntax.specs.Expressions.Tree.{Term}
+use Rattle.dh_syntax.specs.Expressions.Values.{HasText, HasValues, HasNoNoncharacters}
+use Rattle.dh_syntax.specs.Text.Printed.{text_of}
+use Rattle.dh_syntax.specs.Text.Spelling.{Spells, ParsesTo}
+
+pub parsed_printed : (e : Term) → IsSpellable e → HasValues e → HasNoNoncharacters e → parsed (text_of e) ≡ answer e
+parsed_printed e s v g = parses_once (text_of e) (parsed (text_of e)) (answer e) (parses (text_of e)) (printed_parses e s (values e v g))
+
+spelled : (bytes : List ℕ) (e : Term) → parsed bytes ≡ Ok e → Spells bytes e
+spelled bytes e p = subst (ParsesTo bytes) p (parses bytes)
+
+pub printed_again : (bytes : List ℕ) (e : Term) → parsed bytes ≡ Ok e → HasText e → HasNoNoncharacters e → parsed (text_of e) ≡ answer e
+printed_again bytes e p t g = let s = spelled bytes e p in parsed_printed e s.spellable (spells_in_range bytes e s, t) g
