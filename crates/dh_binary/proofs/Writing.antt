@@ -18,7 +18,7 @@ use Rattle.dh_syntax.specs.declared.operators.BinOp.{BinOp}
 use Rattle.dh_syntax.specs.declared.operators.BinOp.TheVariants as op
 use Rattle.dh_syntax.specs.Expressions.Arity.{plain, binding, typed_count, alt_labels, has_some, fits, IsWellFormed, AreWellFormed}
 use Rattle.dh_syntax.specs.Bytes.Binary as bin
-use Rattle.dh_syntax.specs.Bytes.Binary.{form, forms, enc, mode_code, Form}
+use Rattle.dh_syntax.specs.Bytes.Binary.{form, forms, enc, mode_code, Encoding}
 use Rattle.dh_syntax.specs.Bytes.BinaryHeads.{unsigned, negative, octets}
 use Rattle.dh_syntax.specs.Bytes.BinaryItems.{Item, single, array_of, map_of, tagged, no_items, more_items, Pairs, no_pairs, more_pairs, item_count, pair_count}
 use Rattle.dh_syntax.specs.Bytes.Cbor as cbor
@@ -36,7 +36,7 @@ use Rattle.dh_binary.proofs.BackMore.{left_of, right_of}
 use Rattle.dh_binary.proofs.Firsts.{list_same}
 
 -- a form is the bytes of what is written
-pub record Writes (f : Form) (w : Written) : Type 0 where
+pub record Writes (f : Encoding) (w : Written) : Type 0 where
   pub alone : f.alone ≡ item_bytes w.alone
   pub applied : f.applied ≡ map item_bytes w.applied
   pub bound : f.bound ≡ map item_bytes w.bound

@@ -11,7 +11,7 @@ use Rattle.dh_syntax.specs.declared.expressions.Op.{Op}
 use Rattle.dh_syntax.specs.declared.expressions.Op.TheVariants as ops
 use Rattle.dh_syntax.specs.declared.operators.Builtin.{Builtin}
 use Rattle.dh_syntax.specs.declared.operators.Builtin.TheVariants as builtins
-use Rattle.dh_syntax.specs.Bytes.Binary.{Part, Form, plain as free, under, node, form, forms, enc, application, empty_list, variable_item, items, function, integer, interleaved, pairs, alternatives, digest_item, mode_code, loc_items}
+use Rattle.dh_syntax.specs.Bytes.Binary.{Part, plain as free, under, node, form, forms, enc, application, empty_list, variable_item, items, function, integer, interleaved, pairs, alternatives, digest_item, mode_code, loc_items, Encoding}
 use Rattle.dh_syntax.specs.Bytes.Cbor.{head, array, map_of, natural, text, bytes, fewest_bytes, null}
 use Rattle.dh_syntax.specs.Expressions.Arity.{has_some, IsWellFormed}
 use Rattle.dh_syntax.specs.Expressions.Numbers.{eq, bytes_eq}
@@ -182,7 +182,7 @@ list_of (Leaf v) a h = absurd (false≢true h)
 list_of (Node (ops.Builtin builtins.List) r) a h = refl
 list_of (Node op r) a h = absurd (false≢true h)
 
-other_node : (op : Op) (r : Row Var Name) (a : Form) → (op ≡ ops.App → ⊥) → is_list (Node op r) ≡ false
+other_node : (op : Op) (r : Row Var Name) (a : Encoding) → (op ≡ ops.App → ⊥) → is_list (Node op r) ≡ false
     → empty_list (application (form (Node op r)) a) ≡ array (natural 28 ∷ (application (form (Node op r)) a).alone ∷ [])
 other_node op r a q h =
     let whole = application (form (Node op r)) a in
@@ -205,7 +205,7 @@ not_list_of (Node op r) a w h = by op r w h
     by op r w h = other_node op r (form a) (λ e. cc) h
 
 -- of a type that is no application
-pub not_applied_list : (t : Form) → t.applied ≡ t.alone ∷ [] → empty_list t ≡ array (natural 28 ∷ t.alone ∷ [])
+pub not_applied_list : (t : Encoding) → t.applied ≡ t.alone ∷ [] → empty_list t ≡ array (natural 28 ∷ t.alone ∷ [])
 not_applied_list t e = ap (λ i. empty_list (record { alone = t.alone; applied = i; bound = t.bound })) e
 
 pub empty_other : (t f a : Term) (r : Row Var Name) → t ≡ Node ops.App r → r ≡ kid None f (kid None a end) → IsWellFormed t → is_list f ≡ false
