@@ -9,7 +9,7 @@ use Rattle.std.specs.Str.{IsUtf8, IsCharBoundary}
 use Rattle.dh_syntax.specs.Text.Characters.{line_feed}
 use Rattle.dh_syntax.specs.Text.Literals.{common, counted, counted_later, counted_lines, indentation, indented_by, lines_of, cut, cut_later, cut_pieces, unindent}
 use Rattle.dh_syntax.proofs.Numbers.{and-true_left, and-true_right}
-use Rattle.dh_literals.specs.Indentation.{is_blank, is_blank_before}
+use Rattle.dh_literals.specs.Inside.Indentation.{is_blank, is_blank_before}
 use Rattle.dh_literals.proofs.Fronts.{front_passes, length-taken, all_front, passing_boundary}
 use Rattle.dh_literals.proofs.Lines.{HasFirst, has_first, one_line, first_line}
 use Rattle.dh_literals.proofs.SplitParts.{Lacks, SplitAt}

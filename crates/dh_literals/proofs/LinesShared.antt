@@ -7,7 +7,7 @@ use Rattle.std.proofs.lemmas.List.Sums.{common_prefix_len-le}
 use Rattle.std.specs.List.{common_prefix_len}
 use Rattle.dh_syntax.specs.Text.Literals.{common, counted, counted_later, counted_lines, indentation, lines_of}
 use Rattle.dh_syntax.specs.Text.Characters.{line_feed}
-use Rattle.dh_literals.specs.Indentation.{common_with}
+use Rattle.dh_literals.specs.Inside.Indentation.{common_with}
 use Rattle.dh_literals.proofs.Lines.{one_line, first_line, HasFirst, has_first, has_first_counted, counted_empty, counted_full}
 use Rattle.dh_literals.proofs.SplitParts.{Lacks, SplitAt}
 

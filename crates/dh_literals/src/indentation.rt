@@ -5,7 +5,7 @@ ghost use Rattle.std.specs.List.{common_prefix_len, prefix_len, join_with_byte, 
 ghost use Rattle.std.specs.Option.{option_copied};
 ghost use Rattle.dh_syntax.specs.Text.Characters.{line_feed};
 ghost use Rattle.dh_syntax.specs.Text.Literals.{common, lines_of, counted, indentation, indented_by, cut, cut_later, unindent};
-ghost use Rattle.dh_literals.specs.Indentation.{common_with, is_blank, is_blank_before};
+ghost use Rattle.dh_literals.specs.Inside.Indentation.{common_with, is_blank, is_blank_before};
 
 use dh_syntax::{Many, Piece, Pieces};
 use std::alloc::{AllocError, Global};

@@ -4,7 +4,7 @@ use Rattle.std.specs.Bool.{beq}
 use Rattle.std.specs.Cmp.Lexicographic.{pointwise}
 use Rattle.dh_syntax.specs.Expressions.Numbers.{eq, bytes_eq}
 use Rattle.dh_syntax.proofs.NativeTests.{bytes_eq-pointwise}
-use Rattle.dh_paths.specs.Origins.{scheme_text}
+use Rattle.dh_paths.specs.Inside.Origins.{scheme_text}
 
 -- origins of one scheme are the same exactly where their hosts are
 pub same_scheme : (s t : Bool) (h k : List ℕ) → beq s t ≡ true → bytes_eq h k ≡ bytes_eq (scheme_text s ++ h) (scheme_text t ++ k)

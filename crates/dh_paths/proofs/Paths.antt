@@ -3,7 +3,7 @@ use Rattle.std.proofs.Common.{◌≡◌, ℕ, ◌+◌, ◌-◌, ◌<◌, ◌≤�
 use Rattle.std.proofs.lemmas.Bool.{false≢true}
 use Rattle.std.proofs.lemmas.List.{drop_all, drop_more, drop-set, drop-set-lt, get_or-take, get_or_default, length-drop, length-set, take-take, take_rest}
 use Rattle.dh_syntax.specs.Imports.Locations.{Comps, folder, file, is_dot, is_up, before_folder, canon_folder, canon_path}
-use Rattle.dh_paths.specs.Paths.{goes_up}
+use Rattle.dh_paths.specs.Inside.Paths.{goes_up}
 use Rattle.dh_syntax.proofs.LocationLaws.{folder-last, file-last, has_file, canon_folder-canonical}
 
 abbrev pub IsCanonical : Comps → Type 0

@@ -1,7 +1,7 @@
 -- The folder of a route.
 use Rattle.std.proofs.Common.{◌≡◌, ℕ, ◌-◌, ◌≤◌, Bool, true, false, List, [], ◌∷◌, length, take, codes, refl, ◌∙◌, ap, arith}
 use Rattle.dh_syntax.specs.Imports.Locations.{Comps, folder}
-use Rattle.dh_paths.specs.Paths.{route}
+use Rattle.dh_paths.specs.Inside.Paths.{route}
 
 folder-take : (c : List ℕ) (cs : Comps) → folder (c ∷ cs) ≡ take (length cs) (c ∷ cs)
 folder-take c [] = refl

@@ -1,3 +1,2 @@
+pub mod Inside
 pub mod LocationLaws
-pub mod Origins
-pub mod Paths

@@ -3,7 +3,7 @@
 ghost use Rattle.std.specs.Prelude.{◌≡◌, ◌∷◌, [], ◌<◌, ◌≤◌, length, take, drop, slice_index_or, vec_len, IsTrue, MatchOption};
 ghost use Rattle.dh_syntax.specs.declared.locations.Loc.TheVariants.{Here};
 ghost use Rattle.dh_syntax.specs.Imports.Locations as spec;
-ghost use Rattle.dh_paths.specs.Paths.{goes_up};
+ghost use Rattle.dh_paths.specs.Inside.Paths.{goes_up};
 
 use dh_syntax::{Comps, Loc, Many, Piece};
 

@@ -3,7 +3,7 @@
 ghost use Rattle.std.specs.Prelude.{◌≡◌, ◌++◌, map, IfOk, OnOk};
 ghost use Rattle.std.specs.Option.{option_copied};
 ghost use Rattle.dh_syntax.specs.Imports.Locations as spec;
-ghost use Rattle.dh_paths.specs.Paths.{route};
+ghost use Rattle.dh_paths.specs.Inside.Paths.{route};
 
 use crate::canonical::canon;
 use crate::escapes::url_component;

@@ -4,7 +4,7 @@ ghost use Rattle.std.specs.Prelude.{◌≡◌, codes};
 ghost use Rattle.std.specs.Option.{option_copied, option_map};
 ghost use Rattle.dh_syntax.specs.Imports.Locations as spec;
 ghost use Rattle.dh_syntax.specs.Expressions.Numbers.{bytes_eq};
-ghost use Rattle.dh_paths.specs.Origins.{origin_text, scheme_text};
+ghost use Rattle.dh_paths.specs.Inside.Origins.{origin_text, scheme_text};
 
 use dh_syntax::{Bytes, Loc, Mode};
 

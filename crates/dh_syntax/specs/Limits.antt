@@ -57,3 +57,10 @@ most_keys = 4096
 -- the bytes of an entry of the cache, at most
 abbrev pub most_entry_bytes : ℕ
 most_entry_bytes = 16_777_216
+
+-- the workers that resolve imports, at most, and where the words ask for none
+abbrev pub most_workers : ℕ
+most_workers = 64
+
+abbrev pub default_workers : ℕ
+default_workers = 4

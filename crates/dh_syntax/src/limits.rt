@@ -36,6 +36,12 @@ pub const MOST_KEYS: usize = 4096;
 /// The bytes of an entry of the cache, at most.
 pub const MOST_ENTRY_BYTES: usize = 16_777_216;
 
+/// The workers that resolve imports, at most.
+pub const MOST_WORKERS: u32 = 64;
+
+/// The workers that resolve imports where the words ask for none.
+pub const DEFAULT_WORKERS: u32 = 4;
+
 /// Each constant is the limit of the definitions.
 pub fn limits_agree()
     ensures bytes { MOST_BYTES ≡ limits.most_bytes }
@@ -48,5 +54,7 @@ pub fn limits_agree()
     ensures height { MOST_HEIGHT ≡ limits.most_height }
     ensures purse { WHOLE_PURSE ≡ limits.whole_purse }
     ensures keys { MOST_KEYS ≡ limits.most_keys }
+    ensures workers { MOST_WORKERS ≡ limits.most_workers }
+    ensures workers_unasked { DEFAULT_WORKERS ≡ limits.default_workers }
     ensures entry_bytes { MOST_ENTRY_BYTES ≡ limits.most_entry_bytes }
 {}

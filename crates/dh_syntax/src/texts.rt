@@ -72,6 +72,13 @@ impl Piece {
         Piece { text }
     }
 
+    /// Its text, which is not copied.
+    pub fn into_string(self) -> String
+        ensures { string_bytes result ≡ self }
+    {
+        self.text
+    }
+
     pub fn as_str(&self) -> &str
         ensures { result.now ≡ self.now }
     {
@@ -105,6 +112,13 @@ impl Bytes {
         ensures { result ≡ bytes.items }
     {
         Bytes { bytes }
+    }
+
+    /// Its bytes, which are not copied.
+    pub fn into_vec(self) -> Vec<u8>
+        ensures { result.items ≡ self }
+    {
+        self.bytes
     }
 
     pub fn as_slice(&self) -> &[u8]

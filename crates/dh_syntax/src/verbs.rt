@@ -8,6 +8,8 @@ ghost use Rattle.dh_syntax.specs.Command.Words.{reads};
 pub enum Verb {
     /// The binary form of the expression that the input spells.
     Encode,
+    /// The printed text of the expression that the input is the binary form of.
+    Decode,
 }
 
 impl Verb {
@@ -16,7 +18,7 @@ impl Verb {
         ensures { result ≡ reads self }
     {
         match self {
-            Verb::Encode => true,
+            Verb::Encode | Verb::Decode => true,
         }
     }
 }

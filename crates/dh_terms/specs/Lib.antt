@@ -1,5 +1,1 @@
-pub mod Below
-pub mod Blanks
-pub mod Lifting
-pub mod Outer
-pub mod Steps
+pub mod Inside

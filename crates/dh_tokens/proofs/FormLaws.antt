@@ -3,7 +3,7 @@ use Rattle.std.proofs.Common.{◌≡◌, ℕ, zero, suc, ◌+◌, ◌<◌, Bool,
 use Rattle.std.specs.List.{prefix_len}
 use Rattle.std.proofs.lemmas.Bool.Decides.{nat_tests}
 use Rattle.dh_syntax.specs.Text.LexForms.{Found, Form, form, longer, longest}
-use Rattle.dh_tokens.specs.Forms.{joined}
+use Rattle.dh_tokens.specs.Inside.Forms.{joined}
 
 -- a form of some bytes is there
 pub form-some : (found : Found) (n : ℕ) → 0 < n → form found n ≡ Some (record { found = found; len = n })

@@ -14,10 +14,10 @@ use Rattle.dh_syntax.specs.Text.LexLocations.{path}
 use Rattle.dh_syntax.specs.Text.LexMarks.{mark, mark_form, brackets, separators, binders, operators, operators_twice}
 use Rattle.dh_syntax.specs.Text.LexNames.{minus_infinity, name_len, quoted_name}
 use Rattle.dh_syntax.specs.Text.LexNumbers.{integer, integer_found, signed_double, signed_time}
-use Rattle.dh_tokens.specs.Forms.{joined}
+use Rattle.dh_tokens.specs.Inside.Forms.{joined}
 use Rattle.dh_syntax.specs.Text.LexTexts.{multi_line_opening}
-use Rattle.dh_tokens.specs.Fronts.{is_path_start, is_white}
-use Rattle.dh_tokens.specs.Numbers.{signed_form}
+use Rattle.dh_tokens.specs.Inside.Fronts.{is_path_start, is_white}
+use Rattle.dh_tokens.specs.Inside.Numbers.{signed_form}
 use Rattle.dh_syntax.specs.Text.Numerals.{integer_len, natural_len, read_integer}
 use Rattle.dh_tokens.proofs.FormLaws.{longest-cons, joined-none, joined_assoc}
 use Rattle.dh_tokens.proofs.FormProperties.{has-more, longest-has, when-has}

@@ -12,8 +12,8 @@ use Rattle.dh_syntax.specs.Text.LexMarks.{mark}
 use Rattle.dh_syntax.specs.Text.LexNames.{name, quoted_name, minus_infinity}
 use Rattle.dh_syntax.specs.Text.LexNumbers.{natural, integer, double, signed_double, date, time, signed_time, binary, bytes_literal}
 use Rattle.dh_syntax.specs.Text.LexTexts.{double_quoted_opening, multi_line_opening}
-use Rattle.dh_tokens.specs.Fronts.{is_symbol}
-use Rattle.dh_tokens.specs.Numbers.{unsigned_form}
+use Rattle.dh_tokens.specs.Inside.Fronts.{is_symbol}
+use Rattle.dh_tokens.specs.Inside.Numbers.{unsigned_form}
 use Rattle.dh_tokens.proofs.FormLaws.{joined-none}
 use Rattle.dh_tokens.proofs.FrontBytes.{code_form-joined_all, joined_all, longest-joined_all}
 use Rattle.dh_tokens.proofs.FrontClasses as classes

@@ -13,7 +13,7 @@ use Rattle.dh_syntax.specs.Text.LexNames.{name, named, name_len, quoted_name, mi
 use Rattle.dh_syntax.specs.Text.LexNumbers.{natural_found, integer_found, natural, integer, fractional, double, signed_double, date, time, signed_time, binary, bytes_literal, is_shaped}
 use Rattle.dh_syntax.specs.Text.LexTexts.{double_quoted_opening, multi_line_opening}
 use Rattle.dh_syntax.specs.Text.Numerals.{natural_len, integer_len, read_natural, read_integer}
-use Rattle.dh_tokens.specs.Fronts.{is_symbol}
+use Rattle.dh_tokens.specs.Inside.Fronts.{is_symbol}
 
 -- a byte that fails a test is none that passes it
 outside : (p : ℕ → Bool) (b c : ℕ) → p b ≡ false → p c ≡ true → eqb b c ≡ false

@@ -9,7 +9,7 @@ use Rattle.dh_syntax.specs.Text.LexForms.{Found, Faulty, Form, form}
 use Rattle.dh_syntax.specs.Text.LexGaps.{Comment, ClosedAfter, FaultyAfter, NotClosed, Opens, Closes, Passes, Stops, block_comment, comment, comment_form, comment_part, line_character, one_further, by_part}
 use Rattle.dh_syntax.specs.Text.Stretches.{Character, Reads, Ends, Faults, Stretch, UpTo, FaultAt, further, stretch, itself, good_character, by_character}
 use Rattle.dh_syntax.proofs.LexingLaws.{lengthened, stretch-skip, after_bytes, comment-skip}
-use Rattle.dh_tokens.specs.Gaps.{extent}
+use Rattle.dh_tokens.specs.Inside.Gaps.{extent}
 
 -- an extent with so many bytes before it
 abbrev pub behind : ℕ → Result ℕ ℕ → Result ℕ ℕ

@@ -6,8 +6,8 @@ use Rattle.dh_syntax.specs.declared.tokens.Mark.{Mark}
 use Rattle.dh_syntax.specs.Text.LexForms.{Form, longest}
 use Rattle.dh_syntax.specs.Text.LexMarks.{mark_form}
 use Rattle.dh_tokens.proofs.FormLaws.{longest-cons, joined_assoc}
-use Rattle.dh_tokens.specs.Forms.{joined}
-use Rattle.dh_tokens.specs.Marks.{spelled_of}
+use Rattle.dh_tokens.specs.Inside.Forms.{joined}
+use Rattle.dh_tokens.specs.Inside.Marks.{spelled_of}
 
 -- the longest mark of a table
 abbrev pub longest_of : List ℕ → List (Bor (List ℕ) × Mark) → Option Form

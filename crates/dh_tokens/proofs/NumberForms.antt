@@ -6,8 +6,8 @@ use Rattle.dh_syntax.specs.Text.Characters.{first, is_sign}
 use Rattle.dh_syntax.specs.Text.LexForms.{Found, LeftOut, Form, form, longest}
 use Rattle.dh_syntax.specs.Text.LexNumbers.{natural, integer, double, signed_double, date, time, signed_time, binary, bytes_literal, fractional, is_shaped, natural_found, integer_found}
 use Rattle.dh_syntax.specs.Text.Numerals.{natural_len, integer_len, read_natural, read_integer}
-use Rattle.dh_tokens.specs.Forms.{joined}
-use Rattle.dh_tokens.specs.Numbers.{unsigned_left_out, signed_left_out, unsigned_form, signed_form}
+use Rattle.dh_tokens.specs.Inside.Forms.{joined}
+use Rattle.dh_tokens.specs.Inside.Numbers.{unsigned_left_out, signed_left_out, unsigned_form, signed_form}
 use Rattle.dh_tokens.proofs.NumberLaws.{natural_len-some}
 use Rattle.dh_tokens.proofs.FormLaws.{longest-cons, longest-one}
 

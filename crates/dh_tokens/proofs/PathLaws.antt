@@ -6,7 +6,7 @@ use Rattle.dh_syntax.specs.declared.tokens.TokenKind.TheVariants as kinds
 use Rattle.dh_syntax.specs.Text.LexForms.{Form, Is, form}
 use Rattle.dh_syntax.specs.Text.LexLocations.{Components, components, path, path_component, path_form}
 use Rattle.dh_tokens.specs.declared.paths.Root.{Root}
-use Rattle.dh_tokens.specs.Paths.{path_in, root_len, root_loc}
+use Rattle.dh_tokens.specs.Inside.Paths.{path_in, root_len, root_loc}
 use Rattle.dh_tokens.proofs.FormLaws.{form-some}
 
 -- a path with some component

@@ -12,9 +12,9 @@ use Rattle.dh_tokens.specs.declared.forms.Found.{Found}
 use Rattle.dh_tokens.specs.declared.places.Literal.{Literal}
 use Rattle.dh_tokens.specs.declared.places.Open.{Open}
 use Rattle.dh_tokens.specs.declared.places.Open.TheVariants as opens
-use Rattle.dh_tokens.specs.LongestForms.{front_form, interpolated_form}
+use Rattle.dh_tokens.specs.Inside.LongestForms.{front_form, interpolated_form}
 use Rattle.dh_tokens.proofs.FrontLaws.{IsAmong}
-use Rattle.dh_tokens.specs.Places.{EndsAmong, IsRooted, braced, opening, placed, within}
+use Rattle.dh_tokens.specs.Inside.Places.{EndsAmong, IsRooted, braced, opening, placed, within}
 
 -- what is open last is open in all of the others
 pub last_open : (os : List Open) (o : Open) (p : Place) → Some o ≡ slice_get os (length os - 1) → within os p ≡ opening o (within (take (length os - 1) os) p)

@@ -17,7 +17,7 @@ use Rattle.dh_syntax.specs.Text.Lexing.{Before, Place, Outside, Interpolated, Am
 use Rattle.dh_tokens.specs.declared.places.Literal.{Literal}
 use Rattle.dh_tokens.specs.declared.places.Open.{Open}
 use Rattle.dh_tokens.specs.declared.places.Open.TheVariants as opens
-use Rattle.dh_tokens.specs.Places.{IsRooted, MayStand, OpensNoText, braced, opening, placed, within}
+use Rattle.dh_tokens.specs.Inside.Places.{IsRooted, MayStand, OpensNoText, braced, opening, placed, within}
 
 -- what is open innermost is opened last
 pub within-last : (os : List Open) (o : Open) (p : Place) → within (os ++ (o ∷ [])) p ≡ opening o (within os p)

@@ -15,7 +15,7 @@ use Rattle.dh_syntax.specs.Text.LexMarks.{Spelled, mark, mark_form, brackets, se
 use Rattle.dh_syntax.specs.Text.LexNames.{Reserved, keyword_names, built_in_names, names_left_out, name, name_len, named, named_in, quoted_name, minus_infinity}
 use Rattle.dh_syntax.specs.Text.LexNumbers.{natural_found, integer_found, natural, integer, fractional, double, signed_double, date, time, signed_time, binary, bytes_literal}
 use Rattle.dh_syntax.specs.Text.Numerals.{natural_len, integer_len, read_natural, read_integer}
-use Rattle.dh_tokens.specs.Forms.{HasFaultWithin}
+use Rattle.dh_tokens.specs.Inside.Forms.{HasFaultWithin}
 use Rattle.dh_tokens.proofs.FormProperties.{Each, form-has, when-has, if-has, longest-has}
 
 -- whether the characters of no text follow a token

@@ -10,9 +10,9 @@ use Rattle.dh_syntax.specs.Text.Stretches.{stretch}
 use Rattle.dh_tokens.specs.declared.states.Before as before
 use Rattle.dh_tokens.specs.declared.states.Before.TheVariants as befores
 use Rattle.dh_tokens.specs.declared.states.State as states
-use Rattle.dh_tokens.specs.Places.{IsRooted, IsWhole}
-use Rattle.dh_tokens.specs.States.{IsReady, before_of, state_of}
-use Rattle.dh_tokens.specs.LongestForms.{front_form, longest_form}
+use Rattle.dh_tokens.specs.Inside.Places.{IsRooted, IsWhole}
+use Rattle.dh_tokens.specs.Inside.States.{IsReady, before_of, state_of}
+use Rattle.dh_tokens.specs.Inside.LongestForms.{front_form, longest_form}
 use Rattle.dh_tokens.specs.declared.faults.LexFault as faults
 use Rattle.dh_tokens.specs.declared.faults.LexFault.TheVariants as the_faults
 use Rattle.dh_tokens.specs.Reading.{IsFault, onto}

@@ -8,10 +8,10 @@ use Rattle.dh_syntax.specs.Text.Lexing.{State, Step, Stops, Skips, Gives, form_a
 use Rattle.dh_tokens.specs.declared.faults.LexFault.{LexFault}
 use Rattle.dh_tokens.specs.declared.faults.LexFault.TheVariants as faults
 use Rattle.dh_tokens.specs.declared.forms.Form as forms
-use Rattle.dh_tokens.specs.Forms.{form_of, found_of, IsSound, IsWithin}
-use Rattle.dh_tokens.specs.Places.{EndsAmong, IsWhole, MayStand}
+use Rattle.dh_tokens.specs.Inside.Forms.{form_of, found_of, IsSound, IsWithin}
+use Rattle.dh_tokens.specs.Inside.Places.{EndsAmong, IsWhole, MayStand}
 use Rattle.dh_tokens.specs.Reading.{IsFault, onto}
-use Rattle.dh_tokens.specs.States.{StepIs}
+use Rattle.dh_tokens.specs.Inside.States.{StepIs}
 use Rattle.dh_tokens.proofs.FrontLaws.{form_at-sound}
 use Rattle.dh_tokens.proofs.PlaceLaws.{form_may_stand}
 use Rattle.dh_tokens.proofs.ReadingLaws.{Takes, after_step, one_step, onto-one}

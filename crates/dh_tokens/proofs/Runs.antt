@@ -11,7 +11,7 @@ use Rattle.std.proofs.lemmas.Bool.Decides.{nat_tests}
 use Rattle.std.proofs.lemmas.Str.Ascii.{IsAscii-nil, IsAscii-cons, IsAscii-more}
 use Rattle.dh_tokens.specs.declared.classes.Class.{Class}
 use Rattle.dh_tokens.specs.declared.classes.Class.TheVariants as classes
-use Rattle.dh_tokens.specs.Classes.{has}
+use Rattle.dh_tokens.specs.Inside.Classes.{has}
 
 -- a reader of UTF-8 succeeds where it fails only elsewhere
 pub ok_where : {T E U : Type 0} (r : Result T E) (P : T → Type 0) (Q : E → Type 0) → MatchResult r P (λ e. ¬ U × Q e) → U → IsOk r

@@ -25,7 +25,7 @@ use Rattle.dh_literals.proofs.Stretching.{has_head, by_first, onto, onto-none, o
 use Rattle.dh_tokens.proofs.FormLaws.{form-some}
 use Rattle.dh_tokens.specs.declared.texts.Next.{Next}
 use Rattle.dh_tokens.specs.declared.texts.Next.TheVariants as next
-use Rattle.dh_tokens.specs.Texts.{is_plain, found_piece, IsCharacter, IsNext, TakesSome}
+use Rattle.dh_tokens.specs.Inside.Texts.{is_plain, found_piece, IsCharacter, IsNext, TakesSome}
 
 -- after an ASCII byte a character ends
 pub ends_in_ascii : (bs : List ℕ) (n : ℕ) → IsUtf8 bs → 0 < n → n ≤ length bs → get_or bs (n - 1) 0 < 128 → IsCharBoundary bs n

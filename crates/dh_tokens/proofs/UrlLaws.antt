@@ -10,8 +10,8 @@ use Rattle.dh_syntax.proofs.LexingLaws.{more_labels-skip}
 use Rattle.dh_tokens.specs.declared.forms.Form as read
 use Rattle.dh_tokens.specs.declared.urls.Scheme.{Scheme}
 use Rattle.dh_tokens.specs.declared.urls.Scheme.TheVariants as schemes
-use Rattle.dh_tokens.specs.Forms.{IsWithin}
-use Rattle.dh_tokens.specs.Urls.{scheme_len}
+use Rattle.dh_tokens.specs.Inside.Forms.{IsWithin}
+use Rattle.dh_tokens.specs.Inside.Urls.{scheme_len}
 use Rattle.dh_tokens.proofs.FormLaws.{form-some}
 use Rattle.dh_tokens.proofs.Runs.{byte_within}
 

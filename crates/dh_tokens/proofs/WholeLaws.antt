@@ -14,8 +14,8 @@ use Rattle.dh_syntax.specs.Text.LexForms.{Found, White, SkippedLine, Is, LeftOut
 use Rattle.dh_syntax.specs.Text.Lexing.{Before, Wide, before_after, Place, Outside, Interpolated, Among, State, Step, Stops, Skips, Gives, form_at, is_wide_index, place_after, step, token_step}
 use Rattle.dh_tokens.specs.declared.forms.Found.{Found as Read}
 use Rattle.dh_tokens.specs.declared.forms.Found.TheVariants as found
-use Rattle.dh_tokens.specs.Forms.{EndsCharacter, found_of}
-use Rattle.dh_tokens.specs.Places.{EndsAmong, IsWhole}
+use Rattle.dh_tokens.specs.Inside.Forms.{EndsCharacter, found_of}
+use Rattle.dh_tokens.specs.Inside.Places.{EndsAmong, IsWhole}
 use Rattle.dh_tokens.proofs.FrontLaws.{EndsAscii, form_at-ends}
 
 -- a form that the characters of a text follow ends where one of them begins

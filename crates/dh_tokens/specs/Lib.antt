@@ -1,15 +1,2 @@
-pub mod Classes
-pub mod Components
-pub mod Forms
-pub mod Fronts
-pub mod Gaps
-pub mod LongestForms
-pub mod Marks
-pub mod Names
-pub mod Numbers
-pub mod Paths
-pub mod Places
+pub mod Inside
 pub mod Reading
-pub mod States
-pub mod Texts
-pub mod Urls

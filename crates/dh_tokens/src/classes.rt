@@ -4,7 +4,7 @@ ghost use Rattle.std.specs.List.{prefix_len};
 ghost use Rattle.std.specs.Str.{IsAscii};
 ghost use Rattle.dh_syntax.specs.Text.Characters.{is_printable, is_segment_byte};
 ghost use Rattle.dh_syntax.specs.Imports.Locations.{is_path_character};
-ghost use Rattle.dh_tokens.specs.Classes.{has};
+ghost use Rattle.dh_tokens.specs.Inside.Classes.{has};
 
 /// The classes of bytes of which a token has a run.
 #[derive(Clone, Copy, Debug)]

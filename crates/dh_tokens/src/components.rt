@@ -2,7 +2,7 @@
 ghost use Rattle.std.specs.Prelude.{◌≡◌, ◌<◌, ◌≤◌, length, take, IfOk, IfSome};
 ghost use Rattle.std.specs.Str.{IsAscii};
 ghost use Rattle.dh_syntax.specs.Text.LexLocations.{begins_percent, components, path_component, plain_component, quoted_component, url_char_len, url_chars_len};
-ghost use Rattle.dh_tokens.specs.Components.{component_in, component_of, components_of, is_url_byte};
+ghost use Rattle.dh_tokens.specs.Inside.Components.{component_in, component_of, components_of, is_url_byte};
 
 use crate::characters::{after, byte_at, up_to};
 use crate::classes::{Class, ascii_text, is_segment_byte, run};

@@ -3,7 +3,7 @@ ghost use Rattle.std.specs.Prelude.{◌≡◌, ◌+◌, length, IsTrue, IfSome, 
 ghost use Rattle.std.specs.Char.{is_ascii_hexdigit};
 ghost use Rattle.std.specs.List.{list_all};
 ghost use Rattle.dh_syntax.specs.Text.LexLocations.{after_sha256, digest, digest_of};
-ghost use Rattle.dh_tokens.specs.Forms.{form_of, IsWithin};
+ghost use Rattle.dh_tokens.specs.Inside.Forms.{form_of, IsWithin};
 
 use crate::characters::{after, up_to};
 use crate::classes::{Class, run_len};

@@ -2,7 +2,7 @@
 ghost use Rattle.std.specs.Prelude.{◌≡◌, ◌+◌, length, IfOk, IfSome, IsTrue, option_map};
 ghost use Rattle.dh_syntax.specs.Text.Characters.{begins, is_environment_start};
 ghost use Rattle.dh_syntax.specs.Text.LexLocations.{environment, plain_environment, quoted_environment};
-ghost use Rattle.dh_tokens.specs.Forms.{form_of, IsWithin};
+ghost use Rattle.dh_tokens.specs.Inside.Forms.{form_of, IsWithin};
 
 use crate::characters::{after, byte_at};
 use crate::classes::{Class, run};

@@ -7,9 +7,9 @@ ghost use Rattle.dh_syntax.specs.Text.Lexing.{code_form, no_form};
 ghost use Rattle.dh_syntax.specs.Text.LexLocations.{digest, environment, url};
 ghost use Rattle.dh_syntax.specs.Text.LexNames.{name};
 ghost use Rattle.dh_syntax.specs.Text.LexTexts.{multi_line_opening};
-ghost use Rattle.dh_tokens.specs.Forms.{form_of, joined, IsWithin};
-ghost use Rattle.dh_tokens.specs.Fronts.{is_first};
-ghost use Rattle.dh_tokens.specs.LongestForms.{longest_form};
+ghost use Rattle.dh_tokens.specs.Inside.Forms.{form_of, joined, IsWithin};
+ghost use Rattle.dh_tokens.specs.Inside.Fronts.{is_first};
+ghost use Rattle.dh_tokens.specs.Inside.LongestForms.{longest_form};
 
 use crate::characters::{after, code_at, line_end_len};
 use crate::digests::digest;

@@ -3,8 +3,8 @@ ghost use Rattle.std.specs.Prelude.{◌≡◌, ◌<◌, ◌≤◌, length, ◌==
 ghost use Rattle.dh_syntax.specs.Text.Characters.{begins, first, tab};
 ghost use Rattle.dh_syntax.specs.Text.LexGaps.{white_space, line_comment, block_comment, skipped_line, line_character, comment_part};
 ghost use Rattle.dh_syntax.specs.Text.Stretches.{stretch, Faults, itself, good_character};
-ghost use Rattle.dh_tokens.specs.Forms.{form_of, IsWithin};
-ghost use Rattle.dh_tokens.specs.Gaps.{IsForward, extent, part_of};
+ghost use Rattle.dh_tokens.specs.Inside.Forms.{form_of, IsWithin};
+ghost use Rattle.dh_tokens.specs.Inside.Gaps.{IsForward, extent, part_of};
 
 use crate::characters::{after, byte_at, char_len, is_good, line_end_len};
 use crate::forms::{Form, Found};

@@ -3,8 +3,8 @@ ghost use Rattle.std.specs.Prelude.{◌≡◌, ◌<◌, ◌≤◌, ◌⊎◌, le
 ghost use Rattle.std.specs.Option.{ForSome};
 ghost use Rattle.dh_syntax.specs.Text.LexForms.{longest};
 ghost use Rattle.dh_syntax.specs.Text.LexMarks.{mark, mark_form, spelled};
-ghost use Rattle.dh_tokens.specs.Forms.{form_of, joined, IsWithin};
-ghost use Rattle.dh_tokens.specs.Marks.{best_of, spelled_of};
+ghost use Rattle.dh_tokens.specs.Inside.Forms.{form_of, joined, IsWithin};
+ghost use Rattle.dh_tokens.specs.Inside.Marks.{best_of, spelled_of};
 
 use crate::forms::{Form, Found};
 use dh_syntax::{BinOp, Mark, TokenKind};

@@ -3,8 +3,8 @@ ghost use Rattle.std.specs.Prelude.{◌≡◌, if◌then◌else◌, IfOk, IsTrue
 ghost use Rattle.dh_syntax.specs.Text.Characters.{begins, first, is_name_start};
 ghost use Rattle.dh_syntax.specs.Text.LexForms.{LeftOut, form};
 ghost use Rattle.dh_syntax.specs.Text.LexNames.{name, named, named_in, quoted_name, minus_infinity};
-ghost use Rattle.dh_tokens.specs.Forms.{form_of, found_of, IsWithin};
-ghost use Rattle.dh_tokens.specs.Names.{meaning_of, meaning_or_label, reserved_of};
+ghost use Rattle.dh_tokens.specs.Inside.Forms.{form_of, found_of, IsWithin};
+ghost use Rattle.dh_tokens.specs.Inside.Names.{meaning_of, meaning_or_label, reserved_of};
 
 use crate::characters::{after, byte_at};
 use crate::classes::{Class, run, run_len};

@@ -5,8 +5,8 @@ ghost use Rattle.dh_syntax.specs.Text.Characters.{first, is_sign};
 ghost use Rattle.dh_syntax.specs.Text.LexForms.{LeftOut, form, longest};
 ghost use Rattle.dh_syntax.specs.Text.LexNumbers.{begins_fraction, begins_exponent, fractional, is_shaped, signed_time, binary, bytes_literal, natural_found, integer_found};
 ghost use Rattle.dh_syntax.specs.Text.Numerals.{natural_len, integer_len, is_natural, is_integer, read_natural, read_integer};
-ghost use Rattle.dh_tokens.specs.Numbers.{unsigned_left_out, signed_left_out, unsigned_form, signed_form};
-ghost use Rattle.dh_tokens.specs.Forms.{form_of, found_of, IsWithin};
+ghost use Rattle.dh_tokens.specs.Inside.Numbers.{unsigned_left_out, signed_left_out, unsigned_form, signed_form};
+ghost use Rattle.dh_tokens.specs.Inside.Forms.{form_of, found_of, IsWithin};
 
 use crate::characters::{after, byte_at};
 use crate::classes::{Class, ascii_text, run_len};

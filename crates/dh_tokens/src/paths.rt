@@ -1,8 +1,8 @@
 //! Paths ("local" of `dhall.abnf`).
 ghost use Rattle.std.specs.Prelude.{◌≡◌, length, IfOk, IfSome, option_map};
 ghost use Rattle.dh_syntax.specs.Text.LexLocations.{path};
-ghost use Rattle.dh_tokens.specs.Forms.{form_of, IsWithin};
-ghost use Rattle.dh_tokens.specs.Paths.{path_in, root_len, root_loc};
+ghost use Rattle.dh_tokens.specs.Inside.Forms.{form_of, IsWithin};
+ghost use Rattle.dh_tokens.specs.Inside.Paths.{path_in, root_len, root_loc};
 
 use crate::characters::{after, byte_at};
 use crate::components::{ComponentKind, components};

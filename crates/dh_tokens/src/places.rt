@@ -4,7 +4,7 @@ ghost use Rattle.dh_syntax.specs.Text.Lexing.{Outside, opened, place_after};
 ghost use Rattle.dh_syntax.specs.Text.LexForms.{Is};
 ghost use Rattle.dh_syntax.specs.declared.tokens.Mark.TheVariants.{BraceClose, BraceOpen};
 ghost use Rattle.dh_syntax.specs.declared.tokens.TokenKind.TheVariants as kinds;
-ghost use Rattle.dh_tokens.specs.Places.{IsRooted, MayStand, place_of};
+ghost use Rattle.dh_tokens.specs.Inside.Places.{IsRooted, MayStand, place_of};
 
 use dh_syntax::{Mark, TextForm, TokenKind};
 use std::alloc::{AllocError, Global};

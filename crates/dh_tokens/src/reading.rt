@@ -2,11 +2,11 @@
 ghost use Rattle.std.specs.Prelude.{◌≡◌, ◌^◌, ◌<◌, ◌≤◌, ◌+◌, ◌-◌, ◌↔◌, length, drop, None, Ok, IfOk, IfErr, IsTrue};
 ghost use Rattle.dh_syntax.specs.Text.Lexing.{Start, Outside, end_at, form_at, form_or, lex, no_form, tokens_from};
 ghost use Rattle.dh_syntax.specs.Text.LexTexts.{text_part};
-ghost use Rattle.dh_tokens.specs.Forms.{form_of, EndsCharacter, IsWithin};
-ghost use Rattle.dh_tokens.specs.LongestForms.{front_form, interpolated_form};
-ghost use Rattle.dh_tokens.specs.Places.{EndsAmong, IsRooted, IsWhole, place_of, placed};
+ghost use Rattle.dh_tokens.specs.Inside.Forms.{form_of, EndsCharacter, IsWithin};
+ghost use Rattle.dh_tokens.specs.Inside.LongestForms.{front_form, interpolated_form};
+ghost use Rattle.dh_tokens.specs.Inside.Places.{EndsAmong, IsRooted, IsWhole, place_of, placed};
 ghost use Rattle.dh_tokens.specs.Reading.{EndIs, IsFault, onto};
-ghost use Rattle.dh_tokens.specs.States.{IsReady, before_of, state_of};
+ghost use Rattle.dh_tokens.specs.Inside.States.{IsReady, before_of, state_of};
 
 use crate::characters::{after, byte_at};
 use crate::faults::LexFault;

@@ -3,9 +3,9 @@ ghost use Rattle.std.specs.Prelude.{◌≡◌, ◌+◌, ◌^◌, ◌<◌, true, 
 ghost use Rattle.std.specs.Result.{result_map_both};
 ghost use Rattle.dh_syntax.specs.Text.LexForms.{Is};
 ghost use Rattle.dh_syntax.specs.Text.Lexing.{before_after, before_after_white, is_wide_index, start, step_at, token_step};
-ghost use Rattle.dh_tokens.specs.Forms.{form_of, found_of, IsSound};
-ghost use Rattle.dh_tokens.specs.Places.{IsRooted, MayStand, place_of};
-ghost use Rattle.dh_tokens.specs.States.{StepIs, before_of, state_of};
+ghost use Rattle.dh_tokens.specs.Inside.Forms.{form_of, found_of, IsSound};
+ghost use Rattle.dh_tokens.specs.Inside.Places.{IsRooted, MayStand, place_of};
+ghost use Rattle.dh_tokens.specs.Inside.States.{StepIs, before_of, state_of};
 
 use crate::faults::LexFault;
 use crate::forms::{Form, Found};

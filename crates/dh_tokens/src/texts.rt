@@ -7,8 +7,8 @@ ghost use Rattle.dh_syntax.specs.Text.Characters.{begins};
 ghost use Rattle.dh_syntax.specs.Text.LexForms.{stretching};
 ghost use Rattle.dh_syntax.specs.Text.LexTexts.{closing_len, double_quoted_character, multi_line_character, piece_character, text_part};
 ghost use Rattle.dh_syntax.specs.Text.Stretches.{stretch, good_character};
-ghost use Rattle.dh_tokens.specs.Forms.{form_of, EndsCharacter, IsWithin};
-ghost use Rattle.dh_tokens.specs.Texts.{found_piece, is_plain, IsCharacter, IsNext};
+ghost use Rattle.dh_tokens.specs.Inside.Forms.{form_of, EndsCharacter, IsWithin};
+ghost use Rattle.dh_tokens.specs.Inside.Texts.{found_piece, is_plain, IsCharacter, IsNext};
 
 use crate::characters::{char_len, is_good, line_end_len};
 use crate::forms::{Form, Found};

@@ -2,8 +2,8 @@
 ghost use Rattle.std.specs.Prelude.{◌≡◌, ◌+◌, ◌≤◌, length, take, Some, IfOk, IfSome, option_map};
 ghost use Rattle.std.specs.Str.{IsAscii};
 ghost use Rattle.dh_syntax.specs.Text.LexLocations.{after_scheme, domain_len, host_len, label_len, more_labels, one_or_more, port_len, query_len, query_of, url, url_form};
-ghost use Rattle.dh_tokens.specs.Forms.{form_of, IsWithin};
-ghost use Rattle.dh_tokens.specs.Urls.{scheme_len, scheme_loc};
+ghost use Rattle.dh_tokens.specs.Inside.Forms.{form_of, IsWithin};
+ghost use Rattle.dh_tokens.specs.Inside.Urls.{scheme_len, scheme_loc};
 
 use crate::characters::{after, byte_at, up_to};
 use crate::classes::{Class, ascii_text, run_len};

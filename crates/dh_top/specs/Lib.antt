@@ -1,4 +1,3 @@
 pub mod Inputs
 pub mod Replies
 pub mod Runs
-pub mod SmallBytes

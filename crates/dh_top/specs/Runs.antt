@@ -3,15 +3,13 @@ use Rattle.std.specs.Prelude.{◌≡◌, ℕ, suc, ◌<◌, ◌⊎◌, List, [],
 use Rattle.std.specs.Io.{StartsWith}
 use Rattle.std.specs.Io.KnownBytes.{Appends, Consumes, Keeps}
 use Rattle.dh_ports.specs.Counts.{Rose}
-use Rattle.dh_syntax.specs.declared.faults.ParseFault.{ParseFault}
+use Rattle.dh_syntax.specs.declared.commands.Command.{Command}
 use Rattle.dh_syntax.specs.declared.statuses.Status.{Status}
 use Rattle.dh_syntax.specs.declared.statuses.Status.TheVariants as status
-use Rattle.dh_syntax.specs.Command.Answer.{line, unread, without_memory, Response, CommandAnswer}
+use Rattle.dh_syntax.specs.Command.Answer.{Response, CommandAnswer, line, unread, without_memory}
 use Rattle.dh_syntax.specs.Command.FaultLines.{read_line, write_line}
 use Rattle.dh_syntax.specs.Limits.{most_bytes}
-use Rattle.dh_syntax.specs.Expressions.Tree.{Term}
 use Rattle.dh_syntax.specs.Command.Words.{Word, reads, command_of}
-use Rattle.dh_syntax.specs.declared.verbs.Verb.{Verb}
 
 -- the input before and after a run: what is left, where that is known, and how many reads have failed
 pub record Input : Type 0 where
@@ -51,15 +49,15 @@ abbrev pub IsLeft : Input → Type 0
 IsLeft input = Keeps input.before input.after × IsQuiet input
 
 -- A command that reads takes its input. Another one, and words that are no command line, leave it alone.
-abbrev pub IsRead : Result Verb ℕ → List ℕ → Input → Type 0
-IsRead (Ok v) text input = MatchBool (reads v) (IsTaken text input) (IsLeft input)
+abbrev pub IsRead : Result Command ℕ → List ℕ → Input → Type 0
+IsRead (Ok c) text input = MatchBool (reads c.verb) (IsTaken text input) (IsLeft input)
 IsRead (Err k) text input = IsLeft input
 
 -- What a run has to write: the answer to its words and its input, or one of the two faults that come before an answer.
-pub data Makes (Parses : List ℕ → Result Term ParseFault → Type 0) (words : List Word) (input : Input) (w : Response) : Type 0 where
-  answers : (text : List ℕ) → IsRead (command_of words) text input → CommandAnswer Parses words text w → Makes Parses words input w
-  cannot_read : (v : Verb) → command_of words ≡ Ok v → Rose input.faults_before input.faults_after → w ≡ unread → Makes Parses words input w
-  lacks_memory : w ≡ without_memory → Makes Parses words input w
+pub data Makes (words : List Word) (input : Input) (w : Response) : Type 0 where
+  answers : (text : List ℕ) → IsRead (command_of words) text input → CommandAnswer words text w → Makes words input w
+  cannot_read : (c : Command) → command_of words ≡ Ok c → Rose input.faults_before input.faults_after → w ≡ unread → Makes words input w
+  lacks_memory : w ≡ without_memory → Makes words input w
 
 -- an output grew by just these bytes, and no write to it failed
 pub record Gains (o : Output) (bytes : List ℕ) : Type 0 where
@@ -86,9 +84,9 @@ pub data Delivers (w : Response) (out err : Output) (s : Status) : Type 0 where
   err_failed : Gains out w.out → Stops err w.err → s ≡ status.Write → Delivers w out err s
 
 -- a run of the command
-pub record Runs (Parses : List ℕ → Result Term ParseFault → Type 0) (words : List Word) (input : Input) (out err : Output) (s : Status) : Type 0 where
+pub record Runs (words : List Word) (input : Input) (out err : Output) (s : Status) : Type 0 where
   pub written : Response
-  pub makes : Makes Parses words input written
+  pub makes : Makes words input written
   pub delivers : Delivers written out err s
 
 -- the words are no command line

@@ -1,11 +1,12 @@
 //! The command: its words, its input, its answer and how that is written.
 #![tactic(auto)]
 
+mod decoding;
 mod delivery;
+mod encoding;
 mod inputs;
 mod replies;
 mod runs;
-mod small_encoder;
 mod words;
 
 pub use runs::run_dhall;

@@ -1,19 +1,16 @@
 //! What a run replies to its words and its input.
 
-ghost use Rattle.std.specs.Prelude.{◌≡◌, [], IfOk, Ok, Err, map, string_bytes};
-ghost use Rattle.dh_parse.specs.SmallSpelling.{ParsesTo};
-ghost use Rattle.dh_parse.specs.SmallTerms.{IsSmall};
-ghost use Rattle.dh_syntax.specs.Expressions.Bridge.{term};
-ghost use Rattle.dh_syntax.specs.Command.Answer.{misused, unread, encoded};
-ghost use Rattle.dh_top.specs.Replies.{written, Encodes, Performs};
+ghost use Rattle.std.specs.Prelude.{◌≡◌, [], IfOk, map, string_bytes};
+ghost use Rattle.dh_syntax.specs.Command.Answer.{Does, misused, unread, answer, misspelt};
+ghost use Rattle.dh_top.specs.Replies.{written, Performs};
 ghost use Rattle.dh_top.specs.Runs.{Makes, reading};
 
+use crate::decoding::decoding;
+use crate::encoding::encoding;
 use crate::inputs::{InputFault, read_input};
-use crate::small_encoder::push_small;
 use crate::words::read_words;
-use dh_parse::parse;
 use dh_ports::Feed;
-use dh_syntax::{Expr, ParseFault, Status, Verb};
+use dh_syntax::{Command, ParseFault, Status, Verb};
 use std::alloc::{AllocError, Global};
 
 /// What is written to the two outputs, and the status.
@@ -25,8 +22,19 @@ pub(crate) struct Reply {
 }
 
 impl Reply {
+    /// The reply that has these bytes for standard output.
+    pub(crate) fn answer(alloc: Global, out: Vec<u8>) -> Reply
+        ensures { written result ≡ answer out.items }
+    {
+        Reply {
+            out,
+            err: Vec::new(alloc),
+            status: Status::Ok,
+        }
+    }
+
     /// The reply that says in one line why there is no answer.
-    fn refusal(alloc: Global, text: String, status: Status) -> Reply
+    pub(crate) fn refusal(alloc: Global, text: String, status: Status) -> Reply
         ensures { written result ≡ record { out = []; err = string_bytes text; status = status } }
     {
         Reply {
@@ -45,39 +53,12 @@ fn misuse(alloc: Global, k: u32) -> Result<Reply, AllocError>
     Ok(Reply::refusal(alloc, text, Status::Usage))
 }
 
-/// The reply of `encode` to an expression.
-fn encoded_reply(alloc: Global, e: &Expr) -> Result<Reply, AllocError>
-    requires { IsSmall (term e.now) }
-    ensures { IfOk result (λ r. written r ≡ encoded (Ok (term e.now))) }
-{
-    let mut out = Vec::new(alloc);
-    push_small(&mut out, e)?;
-    Ok(Reply {
-        out,
-        err: Vec::new(alloc),
-        status: Status::Ok,
-    })
-}
-
 /// The reply to a text that spells no expression.
-fn misspelling(alloc: Global, fault: ParseFault) -> Result<Reply, AllocError>
-    ensures { IfOk result (λ r. written r ≡ encoded (Err fault)) }
+pub(crate) fn misspelling(alloc: Global, fault: ParseFault) -> Result<Reply, AllocError>
+    ensures { IfOk result (λ r. written r ≡ misspelt fault) }
 {
     let text = format!(in alloc; "{fault}\n")?;
     Ok(Reply::refusal(alloc, text, Status::Text))
-}
-
-/// The reply of `encode` to a text.
-fn encoding(alloc: Global, text: &[u8]) -> Result<Reply, AllocError>
-    ensures { IfOk result (λ r. Encodes ParsesTo text.now (written r)) }
-{
-    match parse(alloc, text) {
-        Ok(e) => encoded_reply(alloc, &e),
-        Err(fault) => match fault {
-            ParseFault::Memory => Err(AllocError),
-            _ => misspelling(alloc, fault),
-        },
-    }
 }
 
 /// The reply to an input that cannot be read.
@@ -88,15 +69,23 @@ fn unreadable(alloc: Global) -> Result<Reply, AllocError>
     Ok(Reply::refusal(alloc, text, Status::Read))
 }
 
+/// The reply of a command to what was read of its input.
+fn answer(alloc: Global, verb: Verb, input: &[u8]) -> Result<Reply, AllocError>
+    ensures { IfOk result (λ r. Does verb input.now (written r)) }
+{
+    match verb {
+        Verb::Encode => encoding(alloc, input),
+        Verb::Decode => decoding(alloc, input),
+    }
+}
+
 /// Reads the input of a command, and replies to it.
-fn perform<I: Feed>(alloc: Global, verb: Verb, input: &mut I) -> Result<Reply, AllocError>
-    ensures { IfOk result (λ r. Performs ParsesTo verb
+fn perform<I: Feed>(alloc: Global, command: Command, input: &mut I) -> Result<Reply, AllocError>
+    ensures { IfOk result (λ r. Performs command
         (reading (I.left input.old) (I.left input.new) (I.faults input.old) (I.faults input.new)) (written r)) }
 {
     match read_input(alloc, input) {
-        Ok(text) => match verb {
-            Verb::Encode => encoding(alloc, &text),
-        },
+        Ok(bytes) => answer(alloc, command.verb, &bytes),
         Err(InputFault::Failed) => unreadable(alloc),
         Err(InputFault::Memory) => Err(AllocError),
     }
@@ -108,11 +97,11 @@ pub(crate) fn reply_to<I: Feed>(
     words: &[String],
     input: &mut I,
 ) -> Result<Reply, AllocError>
-    ensures { IfOk result (λ r. Makes ParsesTo (map string_bytes words.now)
+    ensures { IfOk result (λ r. Makes (map string_bytes words.now)
         (reading (I.left input.old) (I.left input.new) (I.faults input.old) (I.faults input.new)) (written r)) }
 {
     match read_words(words) {
-        Ok(verb) => perform(alloc, verb, input),
+        Ok(command) => perform(alloc, command, input),
         Err(k) => misuse(alloc, k),
     }
 }

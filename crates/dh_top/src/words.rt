@@ -1,9 +1,9 @@
 //! The words of the command line.
 
 ghost use Rattle.std.specs.Prelude.{◌≡◌, Ok, Err, map, string_bytes, MatchResult};
-ghost use Rattle.dh_syntax.specs.Command.Words.{verb_of, command_of};
+ghost use Rattle.dh_syntax.specs.Command.Words.{verb_of, is_count, workers_of, operands, counted, options, command_of};
 
-use dh_syntax::Verb;
+use dh_syntax::{Command, DEFAULT_WORKERS, MOST_WORKERS, Verb};
 
 /// The command that a word names.
 fn verb_named(word: &str) -> Option<Verb>
@@ -11,16 +11,87 @@ fn verb_named(word: &str) -> Option<Verb>
 {
     if word == "encode" {
         Some(Verb::Encode)
+    } else if word == "decode" {
+        Some(Verb::Decode)
     } else {
         None
     }
 }
 
+/// Whether a word is a number in decimal without leading zeros, and not 0.
+fn is_count(word: &str) -> bool
+    ensures { result ≡ is_count word.now }
+{
+    match word.as_bytes() {
+        [] => false,
+        [first, ..] => *first != b'0' && word.bytes().all(|b| b.is_ascii_digit()),
+    }
+}
+
+/// How many workers a word asks for.
+fn workers_of(word: &str) -> Option<u32>
+    ensures { result ≡ workers_of word.now }
+{
+    if !is_count(word) {
+        return None;
+    }
+    let workers = u32::from_str_radix(word, 10).ok()?;
+    if workers <= MOST_WORKERS {
+        Some(workers)
+    } else {
+        None
+    }
+}
+
+/// A command whose operands begin at the word of this number. No command has any.
+fn without_operands(verb: Verb, workers: u32, at: u32, rest: &[String]) -> Result<Command, u32>
+    ensures { MatchResult result
+        (λ c. operands verb workers at (map string_bytes rest.now) ≡ Ok c)
+        (λ k. operands verb workers at (map string_bytes rest.now) ≡ Err k) }
+{
+    if rest.is_empty() {
+        Ok(Command { verb, workers })
+    } else {
+        Err(at)
+    }
+}
+
+/// What stands behind `--workers`.
+fn read_workers(verb: Verb, rest: &[String]) -> Result<Command, u32>
+    ensures { MatchResult result
+        (λ c. counted verb (map string_bytes rest.now) ≡ Ok c)
+        (λ k. counted verb (map string_bytes rest.now) ≡ Err k) }
+{
+    let Some((word, rest)) = rest.split_first() else {
+        return Err(3);
+    };
+    let Some(workers) = workers_of(word.as_str()) else {
+        return Err(3);
+    };
+    without_operands(verb, workers, 4, rest)
+}
+
+/// What stands behind the name of a command.
+fn read_options(verb: Verb, rest: &[String]) -> Result<Command, u32>
+    ensures { MatchResult result
+        (λ c. options verb (map string_bytes rest.now) ≡ Ok c)
+        (λ k. options verb (map string_bytes rest.now) ≡ Err k) }
+{
+    let Some((word, more)) = rest.split_first() else {
+        return without_operands(verb, DEFAULT_WORKERS, 2, rest);
+    };
+    if word.as_str() == "--workers" {
+        read_workers(verb, more)
+    } else {
+        without_operands(verb, DEFAULT_WORKERS, 2, rest)
+    }
+}
+
 /// What the words after the program's name ask for. `Err` is the number, from 1, of the first word that makes them
 /// no prefix of a command line, and one more than their count where words are wanting.
-pub fn read_words(words: &[String]) -> Result<Verb, u32>
+pub fn read_words(words: &[String]) -> Result<Command, u32>
     ensures { MatchResult result
-        (λ verb. command_of (map string_bytes words.now) ≡ Ok verb)
+        (λ c. command_of (map string_bytes words.now) ≡ Ok c)
         (λ k. command_of (map string_bytes words.now) ≡ Err k) }
 {
     let Some((word, rest)) = words.split_first() else {
@@ -29,5 +100,5 @@ pub fn read_words(words: &[String]) -> Result<Verb, u32>
     let Some(verb) = verb_named(word.as_str()) else {
         return Err(1);
     };
-    if rest.is_empty() { Ok(verb) } else { Err(2) }
+    read_options(verb, rest)
 }

@@ -1,24 +1,41 @@
 -- Worked examples of words, of the lines that faults have, and of what is written.
-use Rattle.std.specs.Prelude.{◌≡◌, true, [], ◌∷◌, map, Ok, Err, codes, refl}
+use Rattle.std.specs.Prelude.{◌≡◌, true, [], ◌∷◌, map, None, Ok, Err, codes, refl}
 use Rattle.std.specs.Fmt.{digits}
 use Rattle.dh_syntax.specs.declared.expressions.Op.TheVariants as ops
+use Rattle.dh_syntax.specs.declared.faults.DecodeFault.TheVariants as decode
 use Rattle.dh_syntax.specs.declared.faults.ParseFault.TheVariants as fault
 use Rattle.dh_syntax.specs.declared.statuses.Status.TheVariants as status
-use Rattle.dh_syntax.specs.Command.Answer.{misused, unread, without_memory, encoded}
-use Rattle.dh_syntax.specs.Command.FaultLines.{parse_fault_line, usage_line, read_line, write_line, memory_line}
+use Rattle.dh_syntax.specs.Command.Answer.{misused, unread, without_memory, encoded, decoded}
+use Rattle.dh_syntax.specs.Command.FaultLines.{parse_fault_line, decode_fault_line, usage_line, read_line, write_line, memory_line}
 use Rattle.dh_syntax.specs.Command.Statuses.{code_of}
 use Rattle.dh_syntax.specs.Expressions.Tree.{Node, end}
-use Rattle.dh_syntax.specs.Command.Words.{command_of}
+use Rattle.dh_syntax.specs.Command.Words.{command_of, workers_of}
 use Rattle.dh_syntax.specs.declared.verbs.Verb.TheVariants as verb
 
 no_words : command_of [] ≡ Err 1
 no_words = refl
 
-encode_alone : command_of (codes "encode" ∷ []) ≡ Ok verb.Encode
+-- four workers where the words ask for none
+encode_alone : command_of (codes "encode" ∷ []) ≡ Ok (record { verb = verb.Encode; workers = 4 })
 encode_alone = refl
+
+decode_with_workers : command_of (codes "decode" ∷ codes "--workers" ∷ codes "64" ∷ []) ≡ Ok (record { verb = verb.Decode; workers = 64 })
+decode_with_workers = refl
 
 encode_and_more : command_of (codes "encode" ∷ codes "x" ∷ []) ≡ Err 2
 encode_and_more = refl
+
+workers_wanting : command_of (codes "encode" ∷ codes "--workers" ∷ []) ≡ Err 3
+workers_wanting = refl
+
+-- no number of workers
+bad_workers :
+    map workers_of (codes "0" ∷ codes "65" ∷ codes "04" ∷ codes "+4" ∷ codes "4x" ∷ codes "" ∷ codes "1000000000000000000000" ∷ [])
+    ≡ None ∷ None ∷ None ∷ None ∷ None ∷ None ∷ None ∷ []
+bad_workers = refl
+
+workers_and_more : command_of (codes "encode" ∷ codes "--workers" ∷ codes "1" ∷ codes "x" ∷ []) ≡ Err 4
+workers_and_more = refl
 
 no_command : command_of (codes "Encode" ∷ codes "x" ∷ []) ≡ Err 1
 no_command = refl
@@ -38,6 +55,12 @@ lines_without_place :
     map parse_fault_line (fault.TooLarge ∷ fault.TooNested ∷ fault.Memory ∷ [])
     ≡ map codes ("larger than 1048576 bytes" ∷ "nested deeper than 500" ∷ "out of memory" ∷ [])
 lines_without_place = refl
+
+lines_of_bytes :
+    map decode_fault_line (decode.Cut 9 ∷ decode.Indefinite 0 ∷ decode.Float 0 ∷ decode.Tag 1 ∷ decode.Wide 2 ∷ decode.Shape 6 ∷ decode.Rest 9 ∷ decode.TooNested ∷ [])
+    ≡ map codes ("cut at 9" ∷ "indefinite length at 0" ∷ "float at 0" ∷ "tag at 1" ∷ "number too wide at 2" ∷ "shape at 6" ∷ "bytes left at 9" ∷ "nested deeper than 500" ∷ [])
+unfolding digits
+lines_of_bytes = refl
 
 lines_of_the_outside : read_line ∷ write_line ∷ memory_line ∷ [] ≡ map codes ("read failed" ∷ "write failed" ∷ "out of memory" ∷ [])
 lines_of_the_outside = refl
@@ -72,3 +95,7 @@ faulty_input = refl
 -- `True`, without a line feed
 truth : encoded (Ok (Node (ops.Bool true) end)) ≡ record { out = 0xF5 ∷ []; err = []; status = status.Ok }
 truth = refl
+
+-- the same, decoded, with a line feed
+printed : decoded (Ok (Node (ops.Bool true) end)) ≡ record { out = codes "True\n"; err = []; status = status.Ok }
+printed = refl

@@ -20,10 +20,10 @@ use Rattle.dh_syntax.specs.Text.Lexing.{code_form}
 use Rattle.dh_syntax.specs.Text.Numerals.{is_natural, natural_len, integer_len, read_natural, read_integer, write_integer}
 use Rattle.dh_syntax.specs.Limits.{integer_fits}
 use Rattle.dh_literals.proofs.NumbersReadBack.{natural_spelled, natural_read, integer_read}
-use Rattle.dh_tokens.specs.Forms.{joined}
+use Rattle.dh_tokens.specs.Inside.Forms.{joined}
 use Rattle.dh_tokens.proofs.FrontBytes.{joined_all, longest-joined_all, longer-first, code_form-plus, code_form-minus, signed_form-joined_all}
 use Rattle.dh_tokens.proofs.FrontClassLaws.{code_form-digit}
-use Rattle.dh_tokens.specs.Numbers.{unsigned_form}
+use Rattle.dh_tokens.specs.Inside.Numbers.{unsigned_form}
 use Rattle.dh_layout.proofs.Reading.Ends.{is_ending, is_seam}
 use Rattle.dh_layout.proofs.Reading.Seams.{run_len, take_front}
 

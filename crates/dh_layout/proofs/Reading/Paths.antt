@@ -15,7 +15,7 @@ use Rattle.dh_syntax.specs.Text.LexMarks.{mark, mark_form, brackets, separators,
 use Rattle.dh_syntax.specs.declared.operators.BinOp.TheVariants as binary
 use Rattle.dh_syntax.specs.Imports.Locations.{is_path_character, local_component, local_text, quoted}
 use Rattle.dh_syntax.specs.Expressions.Spellable.{is_component}
-use Rattle.dh_tokens.specs.Forms.{joined}
+use Rattle.dh_tokens.specs.Inside.Forms.{joined}
 use Rattle.dh_tokens.proofs.FrontBytes.{code_form-dot, code_form-slash, code_form-tilde, longer-first, longest-joined_all}
 use Rattle.dh_tokens.proofs.FormLaws.{form-some}
 use Rattle.dh_layout.proofs.Reading.Ends.{is_ending, is_seam}

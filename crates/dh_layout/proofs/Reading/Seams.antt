@@ -6,7 +6,7 @@ use Rattle.std.specs.List.{list_all, prefix_len, starts_with}
 use Rattle.dh_syntax.specs.Text.Characters.{first, begins, is_name_start, is_name_byte, is_quoted_label_byte}
 use Rattle.dh_syntax.specs.declared.tokens.TokenKind.TheVariants as kinds
 use Rattle.dh_tokens.proofs.FrontBytes.{code_form-backtick, code_form-dot}
-use Rattle.dh_tokens.specs.Forms.{joined}
+use Rattle.dh_tokens.specs.Inside.Forms.{joined}
 use Rattle.dh_syntax.specs.Text.LexMarks.{mark}
 use Rattle.dh_syntax.specs.declared.tokens.Mark.TheVariants as marks
 use Rattle.dh_syntax.specs.Text.LexForms.{Is, Form, form, longest}

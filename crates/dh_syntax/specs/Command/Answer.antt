@@ -1,13 +1,21 @@
 -- What the command writes and how it ends, for every list of words and every input.
-use Rattle.std.specs.Prelude.{◌≡◌, ℕ, List, [], ◌∷◌, ◌++◌, Result, Ok, Err}
+use Rattle.std.specs.Prelude.{◌≡◌, ◌≤◌, ◌<◌, ℕ, List, [], ◌∷◌, ◌++◌, length, Result, Ok, Err}
+use Rattle.dh_syntax.specs.declared.commands.Command.{Command}
+use Rattle.dh_syntax.specs.declared.faults.DecodeFault.{DecodeFault}
 use Rattle.dh_syntax.specs.declared.faults.ParseFault.{ParseFault}
+use Rattle.dh_syntax.specs.declared.faults.ParseFault.TheVariants as parse
 use Rattle.dh_syntax.specs.declared.statuses.Status.{Status}
 use Rattle.dh_syntax.specs.declared.statuses.Status.TheVariants as status
-use Rattle.dh_syntax.specs.Bytes.Binary.{enc}
-use Rattle.dh_syntax.specs.Command.FaultLines.{parse_fault_line, usage_line, read_line, memory_line}
-use Rattle.dh_syntax.specs.Expressions.Tree.{Term}
-use Rattle.dh_syntax.specs.Command.Words.{Word, command_of}
+use Rattle.dh_syntax.specs.declared.verbs.Verb.{Verb}
 use Rattle.dh_syntax.specs.declared.verbs.Verb.TheVariants as verb
+use Rattle.dh_syntax.specs.Bytes.Binary.{enc}
+use Rattle.dh_syntax.specs.Bytes.BinaryFaults.{DecodesTo}
+use Rattle.dh_syntax.specs.Command.FaultLines.{parse_fault_line, decode_fault_line, usage_line, read_line, memory_line}
+use Rattle.dh_syntax.specs.Command.Words.{Word, command_of}
+use Rattle.dh_syntax.specs.Expressions.Tree.{Term}
+use Rattle.dh_syntax.specs.Limits.{most_bytes}
+use Rattle.dh_syntax.specs.Text.Printed.{text_of}
+use Rattle.dh_syntax.specs.Text.Spelling.{ParsesTo}
 
 -- the bytes to standard output, the bytes to standard error, and the status
 pub record Response : Type 0 where
@@ -18,6 +26,10 @@ pub record Response : Type 0 where
 -- a line with its line feed
 abbrev pub line : List ℕ → List ℕ
 line text = text ++ 10 ∷ []
+
+-- an answer writes its bytes to standard output and nothing to standard error
+abbrev pub answer : List ℕ → Response
+answer bytes = record { out = bytes; err = []; status = status.Ok }
 
 -- a fault writes its line to standard error and nothing to standard output
 abbrev pub fault : List ℕ → Status → Response
@@ -35,12 +47,35 @@ unread = fault read_line status.Read
 abbrev pub without_memory : Response
 without_memory = fault memory_line status.Memory
 
+-- a fault of a text
+abbrev pub misspelt : ParseFault → Response
+misspelt f = fault (parse_fault_line f) status.Text
+
+-- ---- the commands
+
 -- `encode` writes the binary form of the expression that the input spells, or the fault of the input
 abbrev pub encoded : Result Term ParseFault → Response
-encoded (Ok e) = record { out = enc e; err = []; status = status.Ok }
-encoded (Err f) = fault (parse_fault_line f) status.Text
+encoded (Ok e) = answer (enc e)
+encoded (Err f) = misspelt f
 
--- The answer to these words and this input. `Parses` says what a text is parsed to.
-pub data CommandAnswer (Parses : List ℕ → Result Term ParseFault → Type 0) (words : List Word) (input : List ℕ) (w : Response) : Type 0 where
-  usage : (k : ℕ) → command_of words ≡ Err k → w ≡ misused k → CommandAnswer Parses words input w
-  encodes : (r : Result Term ParseFault) → command_of words ≡ Ok verb.Encode → Parses input r → w ≡ encoded r → CommandAnswer Parses words input w
+-- `decode` writes the printed text of the expression that the input is the binary form of, or the fault of the input
+abbrev pub decoded : Result Term DecodeFault → Response
+decoded (Ok e) = answer (line (text_of e))
+decoded (Err f) = fault (decode_fault_line f) status.Text
+
+-- what a command writes of its input
+pub data Does (v : Verb) (input : List ℕ) (w : Response) : Type 0 where
+  encodes : (r : Result Term ParseFault) → v ≡ verb.Encode → ParsesTo input r → w ≡ encoded r → Does v input w
+  decodes : (r : Result Term DecodeFault) → v ≡ verb.Decode → length input ≤ most_bytes → DecodesTo input r → w ≡ decoded r → Does v input w
+  -- more bytes than a text may have are no binary form either
+  decodes_none : v ≡ verb.Decode → most_bytes < length input → w ≡ misspelt parse.TooLarge → Does v input w
+
+-- the answer to these words and this input
+pub data CommandAnswer (words : List Word) (input : List ℕ) (w : Response) : Type 0 where
+  usage : (k : ℕ) → command_of words ≡ Err k → w ≡ misused k → CommandAnswer words input w
+  does : (c : Command) → command_of words ≡ Ok c → Does c.verb input w → CommandAnswer words input w
+
+-- the command answers this input with status 0
+abbrev pub Succeeds : Verb → List ℕ → Type 0
+Succeeds verb.Encode input = (e : Term) × ParsesTo input (Ok e)
+Succeeds verb.Decode input = (e : Term) × (length input ≤ most_bytes) × DecodesTo input (Ok e)

@@ -1,28 +1,65 @@
 -- The words of the command line, the program's name left out.
-use Rattle.std.specs.Prelude.{ℕ, Bool, true, if◌then◌else◌, List, [], ◌∷◌, Option, Some, None, Result, Ok, Err, codes}
+use Rattle.std.specs.Prelude.{ℕ, Bool, true, false, ◌&&◌, not, nat_le, ◌==◌, if◌then◌else◌, List, [], ◌∷◌, Option, Some, None, find, Result, Ok, Err, codes}
+use Rattle.std.specs.Char.{is_ascii_digit}
+use Rattle.std.specs.List.{list_all}
+use Rattle.std.specs.Str.{byte}
+use Rattle.std.specs.Str.Parse.{digits_value}
+use Rattle.dh_syntax.specs.declared.commands.Command.{Command}
 use Rattle.dh_syntax.specs.declared.verbs.Verb.{Verb}
 use Rattle.dh_syntax.specs.declared.verbs.Verb.TheVariants as verb
 use Rattle.dh_syntax.specs.Expressions.Numbers.{bytes_eq}
+use Rattle.dh_syntax.specs.Limits.{most_workers, default_workers}
 
 -- a word, as its bytes
 abbrev pub Word : Type 0
 Word = List ℕ
 
--- the command that a word names
-abbrev pub verb_of : Word → Option Verb
-verb_of w = if bytes_eq w (codes "encode") then Some verb.Encode else None
+-- ---- the commands
+
+abbrev pub verbs : List Verb
+verbs = verb.Encode ∷ verb.Decode ∷ []
+
+abbrev pub verb_name : Verb → Word
+verb_name verb.Encode = codes "encode"
+verb_name verb.Decode = codes "decode"
 
 -- which commands read their input
 abbrev pub reads : Verb → Bool
 reads verb.Encode = true
+reads verb.Decode = true
 
--- A command without operands.
-abbrev pub alone : Verb → List Word → Result Verb ℕ
-alone v [] = Ok v
-alone v (w ∷ ws) = Err 2
+-- the command that a word names
+abbrev pub verb_of : Word → Option Verb
+verb_of w = find (λ v. bytes_eq (verb_name v) w) verbs
+
+-- ---- command lines
+
+-- a number of workers in decimal, without leading zeros
+abbrev pub is_count : Word → Bool
+is_count [] = false
+is_count (b ∷ bs) = not (b == byte "0") && list_all is_ascii_digit (b ∷ bs)
+
+-- how many workers a word asks for, from 1 to the most
+abbrev pub workers_of : Word → Option ℕ
+workers_of w = if is_count w && nat_le (digits_value 10 w) most_workers then Some (digits_value 10 w) else None
+
+-- The operands of a command, which begin at the word of this number, from 1. No command has any.
+abbrev pub operands : Verb → ℕ → ℕ → List Word → Result Command ℕ
+operands v workers at [] = Ok (record { verb = v; workers = workers })
+operands v workers at (w ∷ ws) = Err at
+
+-- a number of workers, and then operands
+abbrev pub counted : Verb → List Word → Result Command ℕ
+counted v [] = Err 3
+counted v (w ∷ ws) = elim (workers_of w) [ None ↦ Err 3 | Some n ↦ operands v n 4 ws ]
+
+-- what stands behind the name of a command: possibly `--workers` and a number, and then operands
+abbrev pub options : Verb → List Word → Result Command ℕ
+options v [] = operands v default_workers 2 []
+options v (w ∷ ws) = if bytes_eq w (codes "--workers") then counted v ws else operands v default_workers 2 (w ∷ ws)
 
 -- What the words ask for, or the number, from 1, of the first word that makes the list no prefix of a command line,
 -- one more than the count where words are wanting.
-abbrev pub command_of : List Word → Result Verb ℕ
+abbrev pub command_of : List Word → Result Command ℕ
 command_of [] = Err 1
-command_of (w ∷ ws) = elim (verb_of w) [ None ↦ Err 1 | Some v ↦ alone v ws ]
+command_of (w ∷ ws) = elim (verb_of w) [ None ↦ Err 1 | Some v ↦ options v ws ]

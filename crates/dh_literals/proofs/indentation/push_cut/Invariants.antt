@@ -4,7 +4,7 @@ use denote.Shadow.{shadow}
 use Rattle.std.specs.List.{list_all}
 use Rattle.std.specs.String.{string_bytes}
 use Rattle.dh_syntax.specs.Text.Literals.{lines_of}
-use Rattle.dh_literals.specs.Indentation.{is_blank_before}
+use Rattle.dh_literals.specs.Inside.Indentation.{is_blank_before}
 use Rattle.dh_literals.proofs.LinesCut.{cut_text}
 use Rattle.dh_literals.proofs.indentation.push_cut.Given as goal
 

@@ -2,7 +2,7 @@ use Rattle.std.proofs.Common.{◌≡◌, length}
 use denote.Text.{Utf8}
 use denote.Shadow.{shadow}
 use Rattle.std.specs.Option.{option_copied}
-use Rattle.dh_literals.specs.Indentation.{common_with}
+use Rattle.dh_literals.specs.Inside.Indentation.{common_with}
 use Rattle.dh_literals.proofs.LinesShared.{indentations}
 use Rattle.dh_literals.proofs.indentation.shared_by.Given as goal
 

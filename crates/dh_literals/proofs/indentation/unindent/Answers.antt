@@ -1,7 +1,7 @@
 use Rattle.std.proofs.Common.{true, ◌≡◌, drop, ap, sym, subst, ◌∙◌, arith}
 use Rattle.std.specs.List.{list_all}
 use Rattle.dh_syntax.specs.Text.Literals.{cut_pieces, indented_by, lines_of}
-use Rattle.dh_literals.specs.Indentation.{is_blank_before}
+use Rattle.dh_literals.specs.Inside.Indentation.{is_blank_before}
 use Rattle.dh_literals.proofs.LinesCut.{cut_text, cut_later_text, blank_pieces, blank_piece, cut_one, cut_more, cut_all}
 use Rattle.dh_literals.proofs.indentation.unindent.Goals as goal
 

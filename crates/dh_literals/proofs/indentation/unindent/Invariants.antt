@@ -1,7 +1,7 @@
 use Rattle.std.proofs.Common.{◌≡◌, ◌++◌, map, drop, true}
 use Rattle.std.specs.List.{list_all}
 use Rattle.dh_syntax.specs.Text.Literals.{counted_later, cut_pieces}
-use Rattle.dh_literals.specs.Indentation.{is_blank_before}
+use Rattle.dh_literals.specs.Inside.Indentation.{is_blank_before}
 use Rattle.dh_literals.proofs.LinesCut.{cut_later_text}
 use Rattle.dh_literals.proofs.indentation.unindent.Given as goal
 

@@ -1,6 +1,6 @@
 use Rattle.std.proofs.Common.{sym, ◌∙◌, ap, subst, ◌≤◌, ◌-◌, ◌++◌, length, take}
 use Rattle.dh_syntax.specs.Imports.Locations.{Comps}
-use Rattle.dh_paths.specs.Paths.{route}
+use Rattle.dh_paths.specs.Inside.Paths.{route}
 use Rattle.dh_paths.proofs.Routes.{folder-route}
 use Rattle.dh_paths.proofs.chains.folder.Goals as goal
 

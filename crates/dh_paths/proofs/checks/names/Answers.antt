@@ -1,5 +1,5 @@
 use Rattle.std.proofs.Common.{◌∙◌}
-use Rattle.dh_paths.specs.Origins.{scheme_text}
+use Rattle.dh_paths.specs.Inside.Origins.{scheme_text}
 use Rattle.dh_paths.proofs.Origins.{stripped, not_stripped}
 use Rattle.dh_paths.proofs.checks.names.Goals as goal
 

@@ -1,6 +1,6 @@
 use Rattle.std.proofs.Common.{List, ℕ, arith}
 use Rattle.std.specs.List.{prefix_len}
-use Rattle.dh_tokens.specs.Classes.{has}
+use Rattle.dh_tokens.specs.Inside.Classes.{has}
 use Rattle.dh_tokens.proofs.Runs.{ascii_fewer, ascii_run, class_is_ascii}
 use Rattle.dh_tokens.proofs.classes.run_len.Goals as goal
 

@@ -1,6 +1,6 @@
 use Rattle.std.proofs.Common.{◌≡◌, ◌+◌, drop}
 use Rattle.std.specs.List.{prefix_len}
-use Rattle.dh_tokens.specs.Classes.{has}
+use Rattle.dh_tokens.specs.Inside.Classes.{has}
 use Rattle.dh_tokens.proofs.classes.run_len.Given as goal
 
 abbrev pub invariant-loop-b : goal.invariant-loop-b

@@ -1,5 +1,5 @@
 use Rattle.std.proofs.Common.{◌+◌, length, ◌∙◌, sym, ap, length-drop, arith}
-use Rattle.dh_tokens.specs.Components.{component_in}
+use Rattle.dh_tokens.specs.Inside.Components.{component_in}
 use Rattle.dh_tokens.proofs.ComponentLaws.{components-loop}
 use Rattle.dh_tokens.proofs.Runs.{byte_within}
 use Rattle.dh_tokens.proofs.components.components.Goals as goal

@@ -1,6 +1,6 @@
 use Rattle.std.proofs.Common.{◌≡◌, ◌≤◌, ◌-◌, length, drop}
 use Rattle.dh_syntax.specs.Text.LexLocations.{components}
-use Rattle.dh_tokens.specs.Components.{component_in}
+use Rattle.dh_tokens.specs.Inside.Components.{component_in}
 use Rattle.dh_tokens.proofs.ComponentLaws.{before}
 use Rattle.dh_tokens.proofs.components.components.Given as goal
 

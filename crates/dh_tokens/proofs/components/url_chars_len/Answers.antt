@@ -1,5 +1,5 @@
 use Rattle.std.proofs.Common.{◌<◌, length, ap, length-drop, arith}
-use Rattle.dh_tokens.specs.Components.{is_url_byte}
+use Rattle.dh_tokens.specs.Inside.Components.{is_url_byte}
 use Rattle.dh_tokens.proofs.ComponentLaws.{url_chars-loop}
 use Rattle.dh_tokens.proofs.Runs.{ascii_more}
 use Rattle.dh_tokens.proofs.components.url_chars_len.Goals as goal

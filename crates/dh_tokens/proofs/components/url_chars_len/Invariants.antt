@@ -1,7 +1,7 @@
 use Rattle.std.proofs.Common.{◌≡◌, ◌≤◌, ◌+◌, ◌-◌, length, take, drop}
 use Rattle.std.specs.Str.{IsAscii}
 use Rattle.dh_syntax.specs.Text.LexLocations.{url_chars_len}
-use Rattle.dh_tokens.specs.Components.{is_url_byte}
+use Rattle.dh_tokens.specs.Inside.Components.{is_url_byte}
 use Rattle.dh_tokens.proofs.components.url_chars_len.Given as goal
 
 abbrev pub invariant-loop-at : goal.invariant-loop-at

@@ -2,9 +2,9 @@ use Rattle.std.proofs.Common.{◌∙◌, sym, ap, option_map}
 use Rattle.std.proofs.lemmas.Bool.{eqb-true}
 use Rattle.dh_syntax.specs.Text.LexLocations.{path}
 use Rattle.dh_syntax.specs.Text.LexNames.{quoted_name}
-use Rattle.dh_tokens.specs.Forms.{form_of, joined}
-use Rattle.dh_tokens.specs.LongestForms.{longest_form}
-use Rattle.dh_tokens.specs.Numbers.{signed_form}
+use Rattle.dh_tokens.specs.Inside.Forms.{form_of, joined}
+use Rattle.dh_tokens.specs.Inside.LongestForms.{longest_form}
+use Rattle.dh_tokens.specs.Inside.Numbers.{signed_form}
 use Rattle.dh_tokens.proofs.FrontBytes.{code_form-apostrophe, code_form-backtick, code_form-path, code_form-plus, code_form-quote, code_form-white}
 use Rattle.dh_tokens.proofs.FrontClassLaws.{code_form-digit, code_form-other, code_form-word}
 use Rattle.dh_tokens.proofs.LongestLaws.{longest_form-is}

@@ -1,5 +1,5 @@
 use Rattle.std.proofs.Common.{◌∙◌, sym, ap, option_map}
-use Rattle.dh_tokens.specs.Forms.{form_of}
+use Rattle.dh_tokens.specs.Inside.Forms.{form_of}
 use Rattle.dh_tokens.proofs.FrontWords.{word-digest, word-environment, word-url}
 use Rattle.dh_tokens.proofs.fronts.word.Goals as goal
 

@@ -1,7 +1,7 @@
 use Rattle.std.proofs.Common.{◌≡◌, ◌≤◌, ◌-◌, length, drop}
 use Rattle.dh_syntax.specs.Text.LexGaps.{line_character}
 use Rattle.dh_syntax.specs.Text.Stretches.{stretch}
-use Rattle.dh_tokens.specs.Gaps.{extent}
+use Rattle.dh_tokens.specs.Inside.Gaps.{extent}
 use Rattle.dh_tokens.proofs.GapSteps.{behind}
 use Rattle.dh_tokens.proofs.gaps.line_len.Given as goal
 

@@ -1,5 +1,5 @@
 use Rattle.std.proofs.Common.{length}
-use Rattle.dh_tokens.specs.Marks.{best_of}
+use Rattle.dh_tokens.specs.Inside.Marks.{best_of}
 use Rattle.dh_tokens.proofs.MarkLaws.{longest_of-step, within_of_two}
 use Rattle.dh_tokens.proofs.marks.longest_in.Goals as goal
 

@@ -1,6 +1,6 @@
 use Rattle.std.proofs.Common.{◌≡◌, drop, map}
 use Rattle.dh_syntax.specs.Text.LexNames.{named_in}
-use Rattle.dh_tokens.specs.Names.{reserved_of}
+use Rattle.dh_tokens.specs.Inside.Names.{reserved_of}
 use Rattle.dh_tokens.proofs.names.meaning_in.Given as goal
 
 abbrev pub invariant-loop-spelling : goal.invariant-loop-spelling

@@ -1,4 +1,4 @@
-use Rattle.dh_tokens.specs.Forms.{found_of}
+use Rattle.dh_tokens.specs.Inside.Forms.{found_of}
 use Rattle.dh_tokens.proofs.NameLaws.{name_form, name_within}
 use Rattle.dh_tokens.proofs.names.name.Goals as goal
 

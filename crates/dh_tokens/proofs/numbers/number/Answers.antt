@@ -1,4 +1,4 @@
-use Rattle.dh_tokens.specs.Forms.{found_of}
+use Rattle.dh_tokens.specs.Inside.Forms.{found_of}
 use Rattle.dh_tokens.proofs.NumberForms.{unsigned_form-left_out, unsigned_form-natural}
 use Rattle.dh_tokens.proofs.NumberLaws.{natural_len-some}
 use Rattle.dh_tokens.proofs.numbers.number.Goals as goal

@@ -1,5 +1,5 @@
 use Rattle.std.proofs.Common.{◌<◌, ◌∙◌, sym, arith}
-use Rattle.dh_tokens.specs.Forms.{found_of}
+use Rattle.dh_tokens.specs.Inside.Forms.{found_of}
 use Rattle.dh_tokens.proofs.NumberForms.{signed_form-left_out, signed_form-integer, signed_form-none}
 use Rattle.dh_tokens.proofs.numbers.signed_number.Goals as goal
 

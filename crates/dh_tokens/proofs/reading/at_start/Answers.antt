@@ -1,6 +1,6 @@
 use Rattle.dh_syntax.specs.Text.Lexing.{Outside, Start, form_at}
-use Rattle.dh_tokens.specs.Forms.{form_of}
-use Rattle.dh_tokens.specs.LongestForms.{front_form}
+use Rattle.dh_tokens.specs.Inside.Forms.{form_of}
+use Rattle.dh_tokens.specs.Inside.LongestForms.{front_form}
 use Rattle.dh_tokens.proofs.PlaceForms.{ok_as}
 use Rattle.dh_tokens.proofs.ReadingLaws.{front-at_start}
 use Rattle.dh_tokens.proofs.reading.at_start.Goals as goal

@@ -1,10 +1,10 @@
 use Rattle.std.proofs.Common.{[], None, ap, sym}
 use Rattle.dh_syntax.specs.Text.Lexing.{form_at}
 use Rattle.dh_tokens.specs.declared.places.Open.TheVariants as opens
-use Rattle.dh_tokens.specs.Forms.{form_of}
-use Rattle.dh_tokens.specs.LongestForms.{front_form, interpolated_form}
-use Rattle.dh_tokens.specs.Places.{placed}
-use Rattle.dh_tokens.specs.States.{before_of}
+use Rattle.dh_tokens.specs.Inside.Forms.{form_of}
+use Rattle.dh_tokens.specs.Inside.LongestForms.{front_form, interpolated_form}
+use Rattle.dh_tokens.specs.Inside.Places.{placed}
+use Rattle.dh_tokens.specs.Inside.States.{before_of}
 use Rattle.dh_tokens.proofs.PlaceForms.{in_braces, in_interpolation, last_item, nothing_last, ok_as}
 use Rattle.dh_tokens.proofs.reading.between.Goals as goal
 

@@ -1,6 +1,6 @@
 use Rattle.std.proofs.Common.{ap, sym, ◌∙◌}
 use Rattle.std.specs.Option.{option_map}
-use Rattle.dh_tokens.specs.Forms.{form_of}
+use Rattle.dh_tokens.specs.Inside.Forms.{form_of}
 use Rattle.dh_tokens.proofs.ReadingLaws.{front-some, front-none}
 use Rattle.dh_tokens.proofs.reading.code.Goals as goal
 

@@ -1,9 +1,9 @@
 use Rattle.std.proofs.Common.{ap, sym, ◌∙◌}
 use Rattle.dh_syntax.specs.Text.Lexing.{Outside, form_at}
 use Rattle.dh_tokens.specs.declared.states.Before.TheVariants as befores
-use Rattle.dh_tokens.specs.Forms.{form_of}
-use Rattle.dh_tokens.specs.LongestForms.{front_form}
-use Rattle.dh_tokens.specs.States.{before_of}
+use Rattle.dh_tokens.specs.Inside.Forms.{form_of}
+use Rattle.dh_tokens.specs.Inside.LongestForms.{front_form}
+use Rattle.dh_tokens.specs.Inside.States.{before_of}
 use Rattle.dh_tokens.proofs.PlaceForms.{ok_as}
 use Rattle.dh_tokens.proofs.ReadingLaws.{front-later}
 use Rattle.dh_tokens.proofs.reading.outside.Goals as goal

@@ -1,8 +1,8 @@
 use Rattle.std.proofs.Common.{◌∙◌, ◌+◌, drop, ap, sym}
 use Rattle.dh_syntax.specs.Text.Lexing.{step_at, tokens_from}
 use Rattle.dh_tokens.specs.Reading.{onto}
-use Rattle.dh_tokens.specs.Forms.{form_of}
-use Rattle.dh_tokens.specs.States.{state_of}
+use Rattle.dh_tokens.specs.Inside.Forms.{form_of}
+use Rattle.dh_tokens.specs.Inside.States.{state_of}
 use Rattle.dh_tokens.proofs.ReadingSteps.{FormRead, read-fault, read-gives, read-may_stand, read-skips, read-sound, gives-whole, skips-whole, pass_skips, pass_gives}
 use Rattle.dh_tokens.proofs.reading.read_form.Goals as goal
 

@@ -1,7 +1,7 @@
 use Rattle.std.proofs.Common.{◌∙◌, ◌+◌, drop, ap, sym, Ok, arith}
 use Rattle.dh_syntax.specs.Text.Lexing.{end_at, tokens_from}
 use Rattle.dh_tokens.specs.Reading.{onto}
-use Rattle.dh_tokens.specs.States.{state_of}
+use Rattle.dh_tokens.specs.Inside.States.{state_of}
 use Rattle.dh_tokens.proofs.ReadingLaws.{read-begins, read-ends, read-further, whole-fault, ready-begins}
 use Rattle.dh_tokens.proofs.reading.tokens.Goals as goal
 

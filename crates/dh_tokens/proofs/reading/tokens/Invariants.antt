@@ -1,5 +1,5 @@
 use Rattle.std.proofs.Common.{◌-◌, length}
-use Rattle.dh_tokens.specs.States.{IsReady, state_of}
+use Rattle.dh_tokens.specs.Inside.States.{IsReady, state_of}
 use Rattle.dh_tokens.proofs.ReadingLaws.{ReadTo}
 use Rattle.dh_tokens.proofs.reading.tokens.Given as goal
 

@@ -5,7 +5,7 @@ use Rattle.std.specs.String.{string_bytes}
 use Rattle.dh_syntax.specs.Text.LexForms.{Form}
 use Rattle.dh_syntax.specs.Text.LexTexts.{piece_character}
 use Rattle.dh_syntax.specs.Text.Stretches.{stretch, UpTo}
-use Rattle.dh_tokens.specs.Texts.{found_piece}
+use Rattle.dh_tokens.specs.Inside.Texts.{found_piece}
 use Rattle.dh_tokens.proofs.TextSteps.{started, step, plain_front, plain_whole, one_front, ends_past, ends_here, piece_read}
 use Rattle.dh_tokens.proofs.texts.piece.Goals as goal
 use Rattle.dh_tokens.proofs.texts.piece.Goals.{else-places-test, then-places-test+in-Ends}

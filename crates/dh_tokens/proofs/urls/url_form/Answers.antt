@@ -1,5 +1,5 @@
 use Rattle.std.proofs.Common.{◌∙◌}
-use Rattle.dh_tokens.specs.Urls.{scheme_len, scheme_loc}
+use Rattle.dh_tokens.specs.Inside.Urls.{scheme_len, scheme_loc}
 use Rattle.dh_tokens.proofs.UrlLaws.{scheme-some, url_form-read, url_len}
 use Rattle.dh_tokens.proofs.urls.url_form.Goals as goal
 

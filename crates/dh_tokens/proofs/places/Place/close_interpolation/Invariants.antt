@@ -1,7 +1,7 @@
 use Rattle.std.proofs.Common.{◌≡◌, ℕ, None, length}
 use Rattle.dh_syntax.specs.Text.Lexing.{Outside, place_after}
 use Rattle.dh_syntax.specs.declared.tokens.TokenKind.TheVariants as kinds
-use Rattle.dh_tokens.specs.Places.{IsRooted, within}
+use Rattle.dh_tokens.specs.Inside.Places.{IsRooted, within}
 use Rattle.dh_tokens.proofs.places.Place.close_interpolation.Given as goal
 
 abbrev pub invariant-braces : goal.invariant-braces

@@ -4,7 +4,7 @@ use Rattle.std.specs.Result.{OnOk}
 use Rattle.dh_syntax.specs.declared.tokens.TokenKind.{TokenKind}
 use Rattle.dh_syntax.specs.declared.tokens.TokenKind.TheVariants as kinds
 use Rattle.dh_syntax.specs.Text.Lexing.{place_after}
-use Rattle.dh_tokens.specs.Places.{place_of}
+use Rattle.dh_tokens.specs.Inside.Places.{place_of}
 use Rattle.dh_tokens.proofs.PlaceLaws.{text_closes, text_opens}
 use Rattle.dh_tokens.proofs.places.Place.pass.Goals as goal
 

@@ -7,7 +7,7 @@ use Rattle.dh_tokens.specs.declared.faults.LexFault.TheVariants as faults
 use Rattle.dh_tokens.specs.declared.states.Before.{Before}
 use Rattle.dh_tokens.specs.declared.states.Before.TheVariants as before
 use Rattle.dh_tokens.specs.declared.states.State.{State}
-use Rattle.dh_tokens.specs.Places.{IsRooted, IsWhole, place_of}
+use Rattle.dh_tokens.specs.Inside.Places.{IsRooted, IsWhole, place_of}
 
 -- what stands before a place
 abbrev pub before_of : Before → lexing.Before

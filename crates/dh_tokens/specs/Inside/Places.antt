@@ -9,7 +9,7 @@ use Rattle.dh_tokens.specs.declared.places.Literal.{Literal}
 use Rattle.dh_tokens.specs.declared.places.Open.{Open}
 use Rattle.dh_tokens.specs.declared.places.Open.TheVariants as opens
 use Rattle.dh_tokens.specs.declared.places.Place as places
-use Rattle.dh_tokens.specs.Forms.{EndsCharacter}
+use Rattle.dh_tokens.specs.Inside.Forms.{EndsCharacter}
 
 -- an interpolation with one more brace open
 abbrev pub braced : Place → Place
