@@ -1,6 +1,9 @@
 //! The words of the command line.
 
-ghost use Rattle.std.specs.Prelude.{◌≡◌, Ok, Err, map, string_bytes, MatchResult};
+ghost use Rattle.std.specs.Prelude.{◌≡◌, Ok, Err, map, string_bytes, codes, MatchResult};
+ghost use Rattle.std.specs.Char.{is_ascii_digit};
+ghost use Rattle.std.specs.List.{list_all};
+ghost use Rattle.dh_syntax.specs.Expressions.Numbers.{bytes_eq};
 ghost use Rattle.dh_syntax.specs.Command.Words.{verb_of, is_count, workers_of, operands, counted, options, command_of};
 
 use dh_syntax::{Command, DEFAULT_WORKERS, MOST_WORKERS, Verb};
@@ -18,21 +21,35 @@ fn verb_named(word: &str) -> Option<Verb>
     }
 }
 
+/// Whether all of these characters are decimal digits.
+fn are_digits(bytes: &[u8]) -> bool
+    ensures { result ≡ list_all is_ascii_digit bytes.now }
+{
+    bytes.iter().all(|b| b.is_ascii_digit())
+}
+
 /// Whether a word is a number in decimal without leading zeros, and not 0.
-fn is_count(word: &str) -> bool
+fn is_count(word: &[u8]) -> bool
     ensures { result ≡ is_count word.now }
 {
-    match word.as_bytes() {
+    match word {
         [] => false,
-        [first, ..] => *first != b'0' && word.bytes().all(|b| b.is_ascii_digit()),
+        [first, ..] => *first != b'0' && are_digits(word),
     }
+}
+
+/// Whether a word says that a number of workers follows.
+fn is_workers(word: &str) -> bool
+    ensures { result ≡ bytes_eq word.now (codes "--workers") }
+{
+    word == "--workers"
 }
 
 /// How many workers a word asks for.
 fn workers_of(word: &str) -> Option<u32>
     ensures { result ≡ workers_of word.now }
 {
-    if !is_count(word) {
+    if !is_count(word.as_bytes()) {
         return None;
     }
     let workers = u32::from_str_radix(word, 10).ok()?;
@@ -80,7 +97,7 @@ fn read_options(verb: Verb, rest: &[String]) -> Result<Command, u32>
     let Some((word, more)) = rest.split_first() else {
         return without_operands(verb, DEFAULT_WORKERS, 2, rest);
     };
-    if word.as_str() == "--workers" {
+    if is_workers(word.as_str()) {
         read_workers(verb, more)
     } else {
         without_operands(verb, DEFAULT_WORKERS, 2, rest)
