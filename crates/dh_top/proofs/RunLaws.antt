@@ -21,21 +21,21 @@ use Rattle.dh_top.specs.Replies.{written}
 use Rattle.dh_top.specs.Runs.{Input, Output, Makes, answers, cannot_read, lacks_memory, Delivers, whole, out_failed, err_failed, Runs, Works, IsRead, IsTaken, IsLeft, reading}
 
 -- a command line is no misuse, and asks for one command
-is_ok : Result Command ℕ → Bool
+abbrev is_ok : Result Command ℕ → Bool
 is_ok (Ok c) = true
 is_ok (Err k) = false
 
 ok_not_err : (c : Command) (k : ℕ) (r : Result Command ℕ) → r ≡ Ok c → r ≡ Err k → ⊥
 ok_not_err c k r e f = true≢false (ap is_ok (sym e ∙ f))
 
-command_or : Command → Result Command ℕ → Command
+abbrev command_or : Command → Result Command ℕ → Command
 command_or c (Ok d) = d
 command_or c (Err k) = c
 
 ok_is : (c d : Command) (r : Result Command ℕ) → r ≡ Ok c → r ≡ Ok d → c ≡ d
 ok_is c d r e f = ap (command_or c) (sym e ∙ f)
 
-is_encode : Verb → Bool
+abbrev is_encode : Verb → Bool
 is_encode verb.Encode = true
 is_encode verb.Decode = false
 
