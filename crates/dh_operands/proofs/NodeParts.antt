@@ -1,5 +1,5 @@
 -- Nodes whose parts are gathered one at a time.
-use Rattle.std.proofs.Common.{◌≡◌, ℕ, suc, ◌+◌, max, true, false, List, [], ◌∷◌, ◌++◌, map, Option, Some, None, refl, ap, sym, ◌∙◌, arith}
+use Rattle.std.proofs.Common.{◌≡◌, ℕ, suc, ◌+◌, max, true, false, List, [], ◌∷◌, ◌++◌, Some, None, refl, ap, sym, ◌∙◌, arith}
 use Rattle.dh_syntax.proofs.Bridge.{term-Node, row_of-nil}
 use Rattle.dh_syntax.proofs.Rows.{row_of-push, +++_assoc, +++-end}
 use Rattle.dh_syntax.specs.declared.expressions.Expr.TheVariants as expr
