@@ -1,9 +1,9 @@
 -- Keys in a row.
-use Rattle.std.proofs.Common.{◌≡◌, List, [], ◌∷◌, ◌++◌, map, Option, None, refl, ap, sym, ◌∙◌, append_assoc, append-nil}
+use Rattle.std.proofs.Common.{◌≡◌, List, [], ◌∷◌, ◌++◌, map, None, refl, ap, sym, ◌∙◌, append_assoc, append-nil}
 use Rattle.dh_grammar.specs.Machine.{one_of}
 use Rattle.dh_grammar.specs.Stubs.{Part, dotted, record_part}
 use Rattle.dh_operands.specs.declared.keys.PlacedKey.{PlacedKey}
-use Rattle.dh_operands.specs.Words.{key_of, placed_key_of, keys_on}
+use Rattle.dh_operands.specs.Words.{key_of, keys_on}
 use Rattle.dh_syntax.specs.Expressions.Tree.{Name}
 use Rattle.dh_syntax.specs.Text.Derivation.{Key, key_label, Keys, one_key, more_keys, labels}
 

@@ -1,5 +1,5 @@
 -- Nodes whose parts are gathered one at a time.
-use Rattle.std.proofs.Common.{◌≡◌, ℕ, suc, ◌+◌, max, true, false, List, [], ◌∷◌, ◌++◌, map, Option, Some, None, refl, ap, sym, ◌∙◌, arith}
+use Rattle.std.proofs.Common.{◌≡◌, ℕ, suc, ◌+◌, max, true, false, List, [], ◌∷◌, ◌++◌, Some, None, refl, ap, sym, ◌∙◌, arith}
 use Rattle.dh_syntax.proofs.Bridge.{term-Node, row_of-nil}
 use Rattle.dh_syntax.proofs.Rows.{row_of-push, +++_assoc, +++-end}
 use Rattle.dh_syntax.specs.declared.expressions.Expr.TheVariants as expr
@@ -11,7 +11,7 @@ use Rattle.dh_syntax.specs.Expressions.Rows.{◌+++◌}
 use Rattle.dh_syntax.specs.Expressions.Tree as tree
 use Rattle.dh_syntax.specs.Expressions.Tree.{Row, end, kid, Name, Term, Var}
 use Rattle.dh_grammar.specs.Stubs.{Part, Parts, kept, node, row, deepest, note_on}
-use Rattle.dh_grammar.specs.Terms as terms
+use Rattle.dh_grammar.specs.Stubs as stubs
 use Rattle.dh_operands.specs.Inside.Nodes.{Gathered, nothing, and_part, and_parts, with_annotation}
 
 abbrev pub gathered : Row Var Name → ℕ → Gathered
@@ -46,7 +46,7 @@ finished op ps g e =
     ap (λ h. kept (tree.Node op h.parts) h.nests) (e ∙ all_gathered end 0 ps) ∙ ap (kept (tree.Node op (row ps))) most
 
 -- an annotation on a node
-and_part_last : (r : Row Var Name) (a : Term) → terms.and_part r a ≡ r +++ kid None a end
+and_part_last : (r : Row Var Name) (a : Term) → stubs.and_part r a ≡ r +++ kid None a end
 and_part_last end a = refl
 and_part_last (kid b e r) a = ap (kid b e) (and_part_last r a)
 

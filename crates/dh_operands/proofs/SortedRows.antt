@@ -19,7 +19,7 @@ use Rattle.dh_syntax.specs.Text.Derivation.{key_label, Keys, one_key, more_keys,
 use Rattle.dh_syntax.specs.Text.Meaning.{put, insert, names, sorted}
 use Rattle.dh_operands.specs.Inside.Nodes.{with_old}
 use Rattle.dh_syntax.proofs.NativeTests.{bytes_eq-pointwise}
-use Rattle.dh_syntax.proofs.Numbers.{bytes_eq-itself, bytes_eq-true}
+use Rattle.dh_syntax.proofs.Numbers.{bytes_eq-true}
 use Rattle.dh_syntax.proofs.Order.{before-slice_cmp, before_irreflexive, before-transitive}
 
 -- std's test of a key

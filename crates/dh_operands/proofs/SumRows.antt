@@ -1,5 +1,5 @@
 -- The alternatives of a union and their types, taken one at a time.
-use Rattle.std.proofs.Common.{◌≡◌, List, [], ◌∷◌, map, Option, Some, None, refl, is_some}
+use Rattle.std.proofs.Common.{◌≡◌, List, [], map, Option, Some, None, refl, is_some}
 use Rattle.dh_syntax.specs.Expressions.Tree.{Name}
 use Rattle.dh_grammar.specs.Stubs as stubs
 use Rattle.dh_grammar.specs.Stubs.{Parts, and_typed, is_typed}

@@ -1,7 +1,7 @@
 //! The alternatives of unions.
 ghost use Rattle.std.specs.Prelude.{◌≡◌, false, IfOk, option_map};
 ghost use Rattle.dh_grammar.specs.Stubs.{stubs};
-ghost use Rattle.dh_grammar.specs.Terms.{so_far};
+ghost use Rattle.dh_grammar.specs.Making.{so_far};
 ghost use Rattle.dh_operands.specs.Operands.{operand_of, note_of};
 ghost use Rattle.dh_operands.specs.Rows.{alternatives_of, alternative_rows};
 ghost use Rattle.dh_operands.specs.Words.{key_of};

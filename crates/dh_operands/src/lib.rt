@@ -28,6 +28,8 @@ mod projections;
 mod rows;
 mod selections;
 mod sources;
+#[cfg(test)]
+mod tests;
 mod words;
 
 pub use alternatives::Alternatives;

@@ -1,7 +1,7 @@
 //! The fields of record types and the entries of records.
 ghost use Rattle.std.specs.Prelude.{◌≡◌, false, IfOk, option_map, map, [], ◌∷◌};
 ghost use Rattle.dh_grammar.specs.Stubs.{stubs, unbound, joined, record_part};
-ghost use Rattle.dh_grammar.specs.Terms.{so_far};
+ghost use Rattle.dh_grammar.specs.Making.{so_far};
 ghost use Rattle.dh_operands.specs.Inside.Nodes.{gathered_of, nothing, and_parts, with_old};
 ghost use Rattle.dh_operands.specs.Operands.{part_of, operand_of};
 ghost use Rattle.dh_operands.specs.Rows.{placed_part_of, rows_of, fields_of, entry_of, entries_of};

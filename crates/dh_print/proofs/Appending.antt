@@ -1,5 +1,5 @@
 -- Texts that are written piece after piece.
-use Rattle.std.proofs.Common.{◌≡◌, List, ℕ, ◌++◌, Result, Ok, Err, OnOk, [], ◌∷◌, if◌then◌else◌, codes, refl, append_assoc, sym, ap, ◌∙◌}
+use Rattle.std.proofs.Common.{◌≡◌, List, ℕ, ◌++◌, Result, Ok, Err, OnOk, if◌then◌else◌, codes, refl, append_assoc, sym, ap, ◌∙◌}
 use lib.Utf8.{encode}
 use Rattle.std.specs.Result.{is_ok}
 use Rattle.std.specs.Str.{IsUtf8}

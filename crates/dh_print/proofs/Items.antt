@@ -1,5 +1,5 @@
 -- The parts of a node, one after the other.
-use Rattle.std.proofs.Common.{◌≡◌, ℕ, zero, suc, ◌+◌, ◌-◌, ◌<◌, ◌≤◌, Bool, true, false, List, [], ◌∷◌, ◌++◌, codes, map, length, drop, get_or, Option, Some, None, refl, sym, ap, subst, ◌∙◌, append_assoc, append-nil, arith}
+use Rattle.std.proofs.Common.{◌≡◌, ℕ, zero, suc, ◌+◌, ◌<◌, ◌≤◌, true, false, List, [], ◌∷◌, ◌++◌, codes, map, length, drop, get_or, Option, Some, None, refl, sym, ap, subst, ◌∙◌, append_assoc, append-nil, arith}
 use Rattle.std.specs.Borrow.{Bor}
 use Rattle.std.proofs.lemmas.List.{drop_more, drop_all}
 use Rattle.std.specs.Prelude.{nat_eq}
@@ -11,8 +11,8 @@ use Rattle.dh_syntax.specs.Expressions.Bridge.{term, row_of}
 use Rattle.dh_syntax.specs.Expressions.Rows.{row_length}
 use Rattle.dh_syntax.specs.Expressions.Tree.{Row, end, kid, Name, Var}
 use Rattle.dh_syntax.specs.Text.Literals.{escape}
-use Rattle.dh_syntax.specs.Text.Printed.{Layout, alternatives, at, braced, fields, interpolated, label, layout, layouts, list_text, part, part_text, separated, texts, union_text}
-use Rattle.dh_syntax.proofs.Bridge.{row_of-nil, row_of-cons}
+use Rattle.dh_syntax.specs.Text.Printed.{Layout, alternatives, at, braced, fields, interpolated, label, layout, layouts, part, part_text, separated, texts, union_text}
+use Rattle.dh_syntax.proofs.Bridge.{row_of-cons}
 use Rattle.dh_syntax.proofs.Rows.{row_of-drop_item, row_of-drop_all, row_length-row_of, row_of-two}
 use Rattle.dh_print.specs.Inside.Parts.{fields_text, form_of, interpolated_later, led, parts_text, update_text}
 use Rattle.dh_print.proofs.Appending.{carried}

@@ -1,5 +1,5 @@
 -- The level of a node that has its parts.
-use Rattle.std.proofs.Common.{◌≡◌, ℕ, Bool, true, false, if◌then◌else◌, List, [], ◌∷◌, ◌++◌, codes, Option, nat_lt, length, get_or, ◌<◌, refl, sym, ap, subst, ◌∙◌, arith}
+use Rattle.std.proofs.Common.{◌≡◌, ℕ, Bool, true, false, if◌then◌else◌, List, [], ◌∷◌, ◌++◌, codes, nat_lt, length, get_or, ◌<◌, refl, sym, ap, subst, ◌∙◌, arith}
 use Rattle.std.specs.Prelude.{IsTrue}
 use Rattle.std.proofs.lemmas.Bool.{and_parts, false≢true}
 use Rattle.dh_syntax.specs.declared.expressions.Expr.{Expr}
@@ -14,7 +14,7 @@ use Rattle.dh_syntax.specs.Expressions.Bridge.{term, row_of}
 use Rattle.dh_syntax.specs.Expressions.Levels.{level_of}
 use Rattle.dh_syntax.specs.Expressions.Numbers.{bytes_eq}
 use Rattle.dh_syntax.specs.Expressions.Order.{ascending}
-use Rattle.dh_syntax.specs.Expressions.Tree.{Row, Leaf, Node, end, kid, Name, Var, Term}
+use Rattle.dh_syntax.specs.Expressions.Tree.{Row, Leaf, Node, Name, Var, Term}
 use Rattle.dh_syntax.specs.Text.Printed.{Layout, annotated, arrow, at, bracketed, forall, form, function_type, layout, layouts, node, operation, quantified}
 use Rattle.dh_syntax.proofs.Bridge.{row_of-nil, row_of-cons, at_term-Var, at_term-Node}
 use Rattle.dh_syntax.proofs.WellFormed.{IsWellFormed-Node}

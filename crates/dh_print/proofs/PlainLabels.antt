@@ -1,12 +1,11 @@
 -- When a name is a label without backticks.
-use Rattle.std.proofs.Common.{◌≡◌, ℕ, zero, suc, ◌+◌, ◌<◌, ◌≤◌, Bool, true, false, not, ◌&&◌, ◌||◌, if◌then◌else◌, cond, List, [], ◌∷◌, ◌++◌, length, map, refl, sym, ap, ◌∙◌, arith}
+use Rattle.std.proofs.Common.{◌≡◌, ℕ, suc, ◌+◌, Bool, true, false, not, ◌&&◌, ◌||◌, if◌then◌else◌, cond, List, [], ◌∷◌, ◌++◌, length, map, refl, sym, ap, ◌∙◌, arith}
 use Rattle.std.specs.Prelude.{nat_eq, nat_lt, bytes_eq}
 use Rattle.std.specs.List.{list_all, list_any, prefix_len}
 use Rattle.std.proofs.lemmas.Bool.{false≢true, lt-ltb}
-use Rattle.std.proofs.lemmas.List.Sums.{prefix_len-le-length}
 use Rattle.std.proofs.lemmas.Bool.Decides.{nat_tests}
 use Rattle.dh_syntax.specs.Text.Characters.{is_name_start, is_name_byte}
-use Rattle.dh_syntax.specs.Text.LexNames.{Reserved, keyword_names, built_in_names, names_left_out, name_len, named, named_in}
+use Rattle.dh_syntax.specs.Text.LexNames.{Reserved, keyword_names, built_in_names, names_left_out, named, named_in}
 use Rattle.dh_syntax.specs.Text.Printed.{is_name, is_plain_label}
 use Rattle.dh_print.specs.Inside.Names.{spells_name}
 

@@ -1,5 +1,5 @@
 -- What stands of a node whose parts are gathered one at a time.
-use Rattle.std.specs.Prelude.{ℕ, zero, suc, max, true, false, List, [], ◌∷◌, Option, Some, None}
+use Rattle.std.specs.Prelude.{ℕ, suc, max, true, false, [], ◌∷◌, Option, Some, None}
 use Rattle.dh_syntax.specs.declared.expressions.Op.{Op}
 use Rattle.dh_syntax.specs.declared.expressions.Op.TheVariants as ops
 use Rattle.dh_syntax.specs.Expressions.Bridge.{row_of}

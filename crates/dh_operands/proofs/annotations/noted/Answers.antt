@@ -1,4 +1,4 @@
-use Rattle.std.proofs.Common.{◌≡◌, [], ◌∷◌, None, ◌∙◌, ap, sym}
+use Rattle.std.proofs.Common.{[], ◌∷◌, None, ◌∙◌, ap, sym}
 use Rattle.std.proofs.lemmas.Result.{IfOk-weaker}
 use Rattle.dh_syntax.proofs.Bridge.{term-Node, term-Var}
 use Rattle.dh_syntax.specs.declared.expressions.Op.TheVariants as ops

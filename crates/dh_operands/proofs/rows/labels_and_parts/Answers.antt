@@ -1,4 +1,4 @@
-use Rattle.std.proofs.Common.{◌≡◌, ◌++◌, refl, ap, sym, ◌∙◌, append-nil}
+use Rattle.std.proofs.Common.{◌++◌, refl, ap, sym, ◌∙◌, append-nil}
 use Rattle.std.specs.Vec.Iter.{into_iter_items}
 use Rattle.dh_syntax.specs.Text.Meaning.{names, values}
 use Rattle.dh_grammar.specs.Stubs.{unbound}

@@ -1,6 +1,3 @@
-use Rattle.dh_print.proofs.Appending.{appended}
-use Rattle.dh_print.proofs.Forms.{if_text}
-use Rattle.dh_print.proofs.Items.{texts_item}
 use Rattle.std.proofs.Common.{◌∙◌}
 use Rattle.dh_print.proofs.NodeLevels.{level-Var, level-Node}
 use Rattle.dh_print.proofs.levels.level.Goals as goal

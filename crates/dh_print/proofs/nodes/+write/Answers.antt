@@ -1,4 +1,4 @@
-use Rattle.std.proofs.Common.{◌≡◌, ◌+◌, ◌<◌, [], ◌∷◌, ◌++◌, zero-add, true, false, codes, length, string_bytes, refl, sym, ap, ◌∙◌, rules, arith}
+use Rattle.std.proofs.Common.{◌+◌, ◌<◌, [], ◌∷◌, ◌++◌, zero-add, true, false, codes, length, string_bytes, refl, sym, ap, ◌∙◌, rules, arith}
 use Rattle.std.proofs.lemmas.Str.{IsUtf8-nil}
 use Rattle.dh_syntax.specs.declared.expressions.Expr.TheViews.{the_lemmas}
 use Rattle.dh_syntax.specs.declared.expressions.Op.TheVariants as ops

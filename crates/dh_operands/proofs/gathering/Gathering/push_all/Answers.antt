@@ -1,5 +1,5 @@
-use Rattle.std.proofs.Common.{◌≡◌, ◌∷◌, map, length, refl, ap, sym, ◌∙◌, arith}
-use Rattle.std.specs.Vec.Iter.{into_iter_items, into_iter_len}
+use Rattle.std.proofs.Common.{map, ap, sym, ◌∙◌}
+use Rattle.std.specs.Vec.Iter.{into_iter_items}
 use Rattle.dh_grammar.specs.Stubs.{unbound}
 use Rattle.dh_operands.specs.Inside.Nodes.{gathered_of, and_parts}
 use Rattle.dh_operands.specs.Operands.{part_of}

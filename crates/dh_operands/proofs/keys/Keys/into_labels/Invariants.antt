@@ -1,4 +1,4 @@
-use Rattle.std.proofs.Common.{◌≡◌, ◌++◌, map, length}
+use Rattle.std.proofs.Common.{◌≡◌, ◌++◌, length}
 use Rattle.std.specs.Vec.Iter.{into_iter_items, into_iter_len}
 use Rattle.dh_operands.proofs.KeyLists.{labels_of}
 use Rattle.dh_operands.proofs.keys.Keys.into_labels.Given as goal

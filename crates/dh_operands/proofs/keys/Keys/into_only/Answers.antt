@@ -1,4 +1,4 @@
-use Rattle.std.proofs.Common.{◌≡◌, ◌∙◌, ap, sym, length, ◌==◌}
+use Rattle.std.proofs.Common.{◌∙◌, ap, sym, length, ◌==◌}
 use Rattle.std.proofs.lemmas.Bool.{false≢true}
 use Rattle.dh_operands.proofs.KeyLists.{several_keys}
 use Rattle.dh_operands.proofs.keys.Keys.into_only.Goals as goal
