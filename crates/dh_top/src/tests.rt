@@ -1,3 +1,5 @@
+//! Whole runs in memory.
+
 use super::*;
 use dh_ports::{MemFeed, MemSink};
 use dh_syntax::{Bytes, Many, Status};
@@ -105,14 +107,72 @@ fn refuses_texts(rt: HostRuntime) -> Result<(), Fail> {
     Ok(())
 }
 
+/// The binary form of `1 + 2`.
+const SUM: [u8; 9] = [0x84, 3, 4, 0x82, 15, 1, 0x82, 15, 2];
+
+#[test]
+fn decodes_expressions(rt: HostRuntime) -> Result<(), Fail> {
+    let table: [(&[u8], &str); 4] = [
+        (&SUM, "1 + 2\n"),
+        (&[0x98, 4, 3, 4, 0x82, 15, 1, 0x82, 15, 2], "1 + 2\n"),
+        (
+            &[0x83, 1, 0x64, b'B', b'o', b'o', b'l', 0],
+            "\u{3bb}(_ : Bool) \u{2192} _\n",
+        ),
+        (&[0xF4], "False\n"),
+    ];
+    for (bytes, text) in table {
+        let ran = run_in_memory(rt.alloc(), &["decode"], bytes, NONE)?;
+        expect(&rt, &ran, text.as_bytes(), "", Status::Ok);
+    }
+    Ok(())
+}
+
+#[test]
+fn refuses_bytes(rt: HostRuntime) -> Result<(), Fail> {
+    let table: [(&[u8], &str); 6] = [
+        (&[], "cut at 0\n"),
+        (&SUM[..5], "cut at 5\n"),
+        (
+            &[0x84, 3, 4, 0x82, 15, 1, 0x82, 15, 2, 0],
+            "bytes left at 9\n",
+        ),
+        (&[0xF9, 0x3C, 0], "float at 0\n"),
+        (&[0x9F, 0xFF], "indefinite length at 0\n"),
+        (
+            &[0x82, 8, 0xA2, 0x61, 0x61, 0xF5, 0x61, 0x61, 0xF5],
+            "shape at 6\n",
+        ),
+    ];
+    for (bytes, line) in table {
+        let ran = run_in_memory(rt.alloc(), &["decode"], bytes, NONE)?;
+        expect(&rt, &ran, &[], line, Status::Text);
+    }
+    let large = vec![in rt.alloc(); 0xF5u8; 1_048_577]?;
+    let ran = run_in_memory(rt.alloc(), &["decode"], large.as_slice(), NONE)?;
+    expect(&rt, &ran, &[], "larger than 1048576 bytes\n", Status::Text);
+    Ok(())
+}
+
 #[test]
 fn refuses_words(rt: HostRuntime) -> Result<(), Fail> {
-    let first = run_in_memory(rt.alloc(), &[], b"1", NONE)?;
-    expect(&rt, &first, &[], "usage: word 1\n", Status::Usage);
-    let first = run_in_memory(rt.alloc(), &["Encode"], b"1", NONE)?;
-    expect(&rt, &first, &[], "usage: word 1\n", Status::Usage);
-    let second = run_in_memory(rt.alloc(), &["encode", "x"], b"1", NONE)?;
-    expect(&rt, &second, &[], "usage: word 2\n", Status::Usage);
+    let table: [(&[&str], &str); 9] = [
+        (&[], "usage: word 1\n"),
+        (&["Encode"], "usage: word 1\n"),
+        (&["encode", "x"], "usage: word 2\n"),
+        (&["decode", "--workers"], "usage: word 3\n"),
+        (&["encode", "--workers", "0"], "usage: word 3\n"),
+        (&["encode", "--workers", "65"], "usage: word 3\n"),
+        (&["encode", "--workers", "04"], "usage: word 3\n"),
+        (&["encode", "--workers", "99999999999"], "usage: word 3\n"),
+        (&["decode", "--workers", "4", "x"], "usage: word 4\n"),
+    ];
+    for (words, line) in table {
+        let ran = run_in_memory(rt.alloc(), words, b"1", NONE)?;
+        expect(&rt, &ran, &[], line, Status::Usage);
+    }
+    let many = run_in_memory(rt.alloc(), &["decode", "--workers", "64"], &[0xF5], NONE)?;
+    expect(&rt, &many, b"True\n", "", Status::Ok);
     Ok(())
 }
 
