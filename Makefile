@@ -5,6 +5,7 @@
 # Builds the program, proved, and runs the main job on an example.
 run: build
 	printf '1 + 2' | crates/dhall/out/dhall encode | od -An -tx1
+	printf '1 + 2' | crates/dhall/out/dhall encode | crates/dhall/out/dhall decode
 
 # The built program stands at crates/dhall/out/dhall.
 build:
