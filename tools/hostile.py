@@ -1,8 +1,9 @@
 #!/usr/bin/env python3
 """Runs the built `dhall` on hostile inputs, devices and command lines, and compares each run with a reference.
 
-The reference is a small parser and encoder in this file, written from README.md and the grammar, not from the
-program. Usage: tools/hostile.py [PROGRAM] [--seed N] [--rounds N]. PROGRAM is crates/dhall/out/dhall where it is left
+The reference is a small parser and encoder in this file for `encode`, and for `decode` expressions.py beside it, which
+makes expressions with what they are written as, and a table of bytes whose answers were worked out by hand; nothing of
+it comes from the program. Usage: tools/hostile.py [PROGRAM] [--seed N] [--rounds N]. PROGRAM is crates/dhall/out/dhall where it is left
 out (`make build` makes it). It prints a summary, and exits with 1 if a run did anything else than what is stated.
 """
 
@@ -17,6 +18,8 @@ import sys
 import threading
 import time
 
+import expressions
+
 MOST_BYTES = 1_048_576
 MOST_OPEN = 500
 MOST_NESTING = 500
@@ -27,6 +30,9 @@ SYNTAX_LINE = b"syntax at 0\n"
 READ_LINE = b"read failed\n"
 WRITE_LINE = b"write failed\n"
 MEMORY_LINE = b"out of memory\n"
+TOO_LARGE = b"larger than 1048576 bytes\n"
+BYTES_FAULT = re.compile(rb"(?:cut|indefinite length|float|tag|number too wide|shape|bytes left) at (\d+)\n"
+                         rb"|larger than 1048576 bytes\n|nested deeper than 500\n")
 
 LEVELS = {b"||": 3, b"+": 4, b"&&": 7, b"*": 11}
 CODES = {b"||": 0, b"&&": 1, b"+": 4, b"*": 5}
@@ -285,6 +291,138 @@ def large_texts(findings):
     check_text(findings, "megabyte", "five megabytes", b"1" + b" " * 5_000_000)
 
 
+# Bytes.
+
+def refused(line):
+    return (TEXT, b"", line + b"\n")
+
+
+def written(form):
+    return (OK, form, b"")
+
+
+def decode(findings, group, name, form, *wanted):
+    ran = run(findings, group, name, ["decode"], input=form)
+    expect(findings, name, ran, *wanted)
+    return ran
+
+
+def expect_some_answer(findings, name, ran, fault, given):
+    """Status 0 with something written, or status 1 with one line of a fault whose place is in the input."""
+    if ran is None:
+        return False
+    status, out, err = ran
+    line = fault.fullmatch(err)
+    if status == OK and out and not err:
+        return True
+    if status != TEXT or out or line is None or int(line.group(1) or 0) > len(given):
+        findings.report(name, f"was {(status, out[:60], err[:60])}, which is no answer")
+    return False
+
+
+ENCODED = [
+    ("840304820f01820f02", written(b"1 + 2\n")),
+    ("840304820f01820f0200", refused(b"bytes left at 9")),
+    ("98040304820f01820f02", written(b"1 + 2\n")),
+    ("f93c00", refused(b"float at 0")),
+    ("9fff", refused(b"indefinite length at 0")),
+    ("830164426f6f6c00", written("λ(_ : Bool) → _\n".encode())),
+    ("9bffffffffffffffff", refused(b"cut at 9")),
+    ("8208a26161f56161f5", refused(b"shape at 6")),
+    ("8213" * 501 + "f5", refused(b"nested deeper than 500")),
+    ("8213" * 500 + "f5", written(b"assert : " * 500 + b"True\n")),
+    ("81" * 1101 + "f5", refused(b"shape at 0")),
+    ("", refused(b"cut at 0")),
+    ("8100", refused(b"shape at 0")),
+    ("83" "0f" "01" "01", refused(b"shape at 1")),
+    ("820fc25101" + "00" * 16, refused(b"number too wide at 2")),
+    ("820fc25100" + "00" * 16, refused(b"shape at 3")),
+    ("d9d9f7f5", written(b"True\n")),
+    ("d9d9f7d9d9f7f5", written(b"True\n")),
+    ("82d9d9f70f01", refused(b"shape at 1")),
+    ("c101", refused(b"tag at 0")),
+    ("f5ff", refused(b"bytes left at 1")),
+    ("1a80000000", refused(b"number too wide at 0")),
+    ("82615f00", refused(b"shape at 1")),
+    ("f6", refused(b"shape at 0")),
+]
+
+
+def worked_bytes(findings):
+    for digits, wanted in ENCODED:
+        decode(findings, "worked bytes", f"bytes {digits[:40]}", bytes.fromhex(digits), wanted)
+    row = bytes.fromhex("840304820f01820f02")
+    for k in range(9):
+        decode(findings, "worked bytes", f"the first row cut to {k} bytes", row[:k], refused(b"cut at %d" % k))
+
+
+def spoilt(source, given, more):
+    """The bytes with some left out, put in or changed at one place."""
+    at = source.randrange(len(given) + 1)
+    return given[:at] + source.choice([b"", source.choice(more)]) + given[at + source.randrange(3):]
+
+
+def random_bytes(findings, source, rounds):
+    """Encodings of random expressions, as they are written and in other ways; spoilt ones, cut ones, and random bytes."""
+    maker = expressions.Maker(source)
+    for n in range(rounds):
+        e = maker.expression(source.randrange(1, 6))
+        form, layout = expressions.encoded(e), expressions.printed(e).encode()
+        decode(findings, "encodings", f"encoding {n} {form.hex()[:60]}", form, written(layout + b"\n"))
+        anyhow = expressions.encoded_anyhow(source, e)
+        decode(findings, "encodings with longer heads", f"encoding {n} {anyhow.hex()[:60]}", anyhow, written(layout + b"\n"))
+        pieces = [source.randbytes(k) for k in (1, 2, 9)]
+        for what, given in (("changed bytes", spoilt(source, form, pieces)), ("random bytes", source.randbytes(source.randrange(1, 40)))):
+            name = f"{what} {given.hex()[:80]}"
+            expect_some_answer(findings, name, run(findings, what, name, ["decode"], input=given), BYTES_FAULT, given)
+        k = source.randrange(len(form))
+        ran = run(findings, "cut bytes", f"{form.hex()[:60]} cut to {k}", ["decode"], input=form[:k])
+        if ran is not None and (ran[0] != TEXT or not ran[2].startswith(b"cut at ")):
+            findings.report(f"cut bytes {form.hex()[:60]} {k}", f"was {ran}")
+
+
+def large_bytes(findings):
+    """Deep encodings, promises of more than there is, and large ones, which are answered in time."""
+    for n in (1, 499, 500, 501, 1100, 1101, 300_000):
+        for what, front in (("arrays", b"\x81"), ("maps", b"\xa1"), ("asserts", b"\x82\x13"), ("tags", b"\xd9\xd9\xf7"),
+                            ("somes", b"\x83\x05\xf6")):
+            form = (front * n + b"\xf5")[:MOST_BYTES]
+            ran = run(findings, "deep bytes", f"{what}, {n}", ["decode"], input=form)
+            expect_some_answer(findings, f"{what}, {n}", ran, BYTES_FAULT, form)
+    for promise in (b"\x9b", b"\xbb", b"\x7b", b"\x5b"):
+        for n in (2 ** 63, 2 ** 32, 2 ** 20):
+            form = promise + n.to_bytes(8, "big") + b"\x00" * 100
+            name = f"{n} items or bytes promised by {promise.hex()}"
+            expect_some_answer(findings, name, run(findings, "promises", name, ["decode"], input=form), BYTES_FAULT, form)
+    order = [f"f{k * 7919 % 20_000}" for k in range(20_000)]
+    large = {
+        "20,000 fields in any order": ("record", [(x, ("bool", True)) for x in order]),
+        "100,000 elements": ("list", [("nat", 1)] * 100_000),
+        "a text of 700,000 bytes": ("text", ["a\n" * 350_000], []),
+        "an application to 400 arguments": None, "400 lets": None,
+    }
+    spine = ("var", "f", 0)
+    for k in range(400):
+        spine = ("app", spine, ("nat", k))
+    large["an application to 400 arguments"] = spine
+    lets = ("var", "x", 0)
+    for k in range(400):
+        lets = ("let", f"x{k}", None, ("nat", k), lets)
+    large["400 lets"] = lets
+    sys.setrecursionlimit(100_000)
+    shuffled = random.Random(7)
+    for name, e in large.items():
+        rows = e[1] if e[0] == "record" else None
+        form = expressions.encoded(e)
+        if rows is not None:
+            writer = expressions.Encoder()
+            form = writer.head(0, 8)
+            form = writer.head(4, 2) + form + writer.head(5, len(rows)) + b"".join(
+                writer.text(x) + b"\xf5" for x, _ in shuffled.sample(rows, len(rows)))
+        decode(findings, "large bytes", name, form, written(expressions.printed(e).encode() + b"\n"))
+    decode(findings, "large bytes", "five megabytes", b"\x82\x13" * 2_500_000, (TEXT, b"", TOO_LARGE))
+
+
 # Devices and command lines.
 
 def devices(findings):
@@ -362,14 +500,23 @@ def slow_pipes(findings):
 def command_lines(findings):
     """Words that are no command line. They leave the input alone, so none is given."""
     rows = [([], 1), ([""], 1), (["Encode"], 1), (["encode "], 1), (["encod"], 1), (["encodes"], 1), (["--help"], 1),
-            (["-"], 1), (["x", "encode"], 1), (["encode", ""], 2), (["encode", "encode"], 2), (["encode", "-h"], 2),
-            (["encode", "a", "b"], 2), ([b"\xff"], 1), ([b"encode\xff"], 1), (["encode", b"\xff"], 1),
-            (["encode"] * 10_000, 2), (["e" * 100_000], 1), (["\u03bb"], 1), (["encode\n"], 1)]
+            (["-"], 1), (["x", "encode"], 1), (["encode", ""], 2), (["encode", "encode"], 2), (["decode", "-h"], 2),
+            (["encode", "a", "b"], 2), ([b"\xff"], 1), ([b"encode\xff"], 1), (["encode"] * 10_000, 2), (["e" * 100_000], 1),
+            (["\u03bb"], 1), (["encode\n"], 1), (["encode", "--workers"], 3), (["decode", "--workers", "0"], 3),
+            (["encode", "--workers", "65"], 3), (["encode", "--workers", "04"], 3), (["encode", "--workers", "+4"], 3),
+            (["encode", "--workers", "4x"], 3), (["encode", "--workers", ""], 3), (["encode", "--workers", "9" * 1_000], 3),
+            (["encode", "--workers", "4", "x"], 4), (["encode", "--workers", "4", "--workers", "4"], 4),
+            (["--workers", "4", "encode"], 1), (["encode", "--worker", "4"], 2)]
     for words, k in rows:
         name = f"words {words!r:.60}"
         for text in (b"1", b"x"):
             wanted = (USAGE, b"", b"usage: word %d\n" % k)
             expect(findings, name, run(findings, "command lines", name, words, input=text), wanted)
+    for n in ("1", "4", "10", "64"):
+        ran = run(findings, "command lines", f"encode, {n} workers", ["encode", "--workers", n], input=b"True")
+        expect(findings, f"encode, {n} workers", ran, written(b"\xf5"))
+        ran = run(findings, "command lines", f"decode, {n} workers", ["decode", "--workers", n], input=b"\xf5")
+        expect(findings, f"decode, {n} workers", ran, written(b"True\n"))
     wanted = (USAGE, b"", b"usage: word 1\n")
     before = lambda: os.close(0)
     expect(findings, "no words, stdin closed", run(findings, "command lines", "no words, stdin closed", [], before), wanted)
@@ -398,7 +545,9 @@ def main():
     start = time.monotonic()
     short_texts(findings)
     random_texts(findings, random.Random(options.seed), options.rounds)
-    for check in (deep_texts, long_texts, large_texts, devices, broken_pipes, slow_pipes, command_lines, little_memory):
+    worked_bytes(findings)
+    random_bytes(findings, random.Random(options.seed), options.rounds)
+    for check in (deep_texts, long_texts, large_texts, large_bytes, devices, broken_pipes, slow_pipes, command_lines, little_memory):
         check(findings)
     for (group, status), count in sorted(findings.counts.items()):
         print(f"{group}: {count} runs with status {status}")
