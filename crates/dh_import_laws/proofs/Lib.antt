@@ -1,0 +1,15 @@
+pub mod Calm
+pub mod CodeRises
+pub mod CodeSteps
+pub mod Counts
+pub mod Facts
+pub mod Graph
+pub mod Grow
+pub mod Keep
+pub mod Laws
+pub mod Plans
+pub mod Progress
+pub mod Sound
+pub mod Visits
+pub mod Walks
+pub mod Wants

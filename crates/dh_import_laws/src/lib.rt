@@ -1,0 +1,17 @@
+//! Laws of imports: of the one depth-first resolver over a record, and of the table that workers share, which after every
+//! history gives what that resolver gives.
+//!
+//! Each law is the contract of a public function with an empty body. A crate that rests on one calls nothing: it cites the
+//! lemma behind it, or the function where a clause has to speak of it, as
+//!
+//!     dh_import_laws::outcomes_are_resolved();
+#![tactic(auto)]
+
+mod resolver;
+mod table;
+
+pub use resolver::{code_comes_of, more_recorded, more_to_spend, one_outcome};
+pub use table::{
+    claims_go_on, in_flight_once, only_wanted, outcomes_are_resolved, records_are_true,
+    steps_lose_nothing,
+};

@@ -1,0 +1,25 @@
+//! Laws of the resolver of imports.
+ghost use Rattle.dh_import_laws.specs.ImportLaws.{OneOutcome, MoreToSpend, MoreRecorded, CodeComesOf, CodeComes, OneOutcomeOfCode};
+
+/// The resolver gives a key one outcome.
+pub fn one_outcome()
+    ensures { OneOutcome }
+{}
+
+/// More to spend on typing and normalising changes no outcome.
+pub fn more_to_spend()
+    ensures { MoreToSpend }
+{}
+
+/// More texts and looks change no outcome.
+pub fn more_recorded()
+    ensures { MoreRecorded }
+{}
+
+/// The last step of code is by the rules of typing and normalising: it gives what they give, that is one outcome, and gives
+/// it with enough to spend.
+pub fn code_comes_of()
+    ensures gives { CodeComesOf }
+    ensures given { CodeComes }
+    ensures one { OneOutcomeOfCode }
+{}

@@ -1,0 +1,42 @@
+//! Laws of the table that workers share.
+ghost use Rattle.dh_import_laws.specs.ImportLaws.{OutcomesAreResolved, RootIsResolved, VisitsAreResolved, GoesOn, FetchesAreWanted, FrozenLeadAfterLooks, InFlightOnce, InFlightUnrecorded, OutcomesStay, RootStays, TooManyStay, TextsAreParsed, EntriesAreGood, LimitsAreLicensed};
+
+/// After every history each outcome, and the end of the root, is the resolver's over the record; at a ready root so are
+/// the visited keys.
+pub fn outcomes_are_resolved()
+    ensures outcomes { OutcomesAreResolved }
+    ensures root { RootIsResolved }
+    ensures visits { VisitsAreResolved }
+{}
+
+/// With nothing in flight, no task open and the root undecided, a loop can be marked, and then the root is decided or a
+/// task is open.
+pub fn claims_go_on()
+    ensures { GoesOn }
+{}
+
+/// Only what is wanted is fetched, and through a frozen key only after its look.
+pub fn only_wanted()
+    ensures fetches { FetchesAreWanted }
+    ensures frozen { FrozenLeadAfterLooks }
+{}
+
+/// A task is in flight under one serial at most, and what is in flight is not recorded.
+pub fn in_flight_once()
+    ensures once { InFlightOnce }
+    ensures unrecorded { InFlightUnrecorded }
+{}
+
+/// A step changes no outcome and no end of the root, and keys that are too many stay so.
+pub fn steps_lose_nothing()
+    ensures outcomes { OutcomesStay }
+    ensures root { RootStays }
+    ensures too_many { TooManyStay }
+{}
+
+/// What a text is recorded to parse to is what it parses to, recorded entries are good, and recorded limits are licensed.
+pub fn records_are_true()
+    ensures texts { TextsAreParsed }
+    ensures entries { EntriesAreGood }
+    ensures limits { LimitsAreLicensed }
+{}
