@@ -1,0 +1,10 @@
+pub mod DecodingLaws
+pub mod EntryLaws
+pub mod LetLaws
+pub mod NodeParts
+pub mod NumberLaws
+pub mod ReadingLaws
+pub mod RowLaws
+pub mod SpellingLaws
+pub mod WellFormedParts
+pub mod WellFormedReading

@@ -1,0 +1,6 @@
+use Rattle.std.proofs.Common.{ap}
+use Rattle.dh_decode.proofs.NodeParts.{no_part}
+use Rattle.dh_decode.proofs.nodes.stub.Goals as goal
+
+pub returns : goal.returns
+returns c = ap (λ t. record { expression = t; nests = 501 }) (no_part _ _ c.new.ensures)

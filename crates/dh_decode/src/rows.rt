@@ -1,0 +1,110 @@
+//! The rows of arrays: what an array is by its first number and how many items come after it.
+ghost use Rattle.std.specs.Prelude.{◌≡◌, [], option_map};
+ghost use Rattle.dh_binary.specs.Machine as machine;
+ghost use Rattle.dh_binary.specs.Machine.{when, operands};
+ghost use Rattle.dh_decode.specs.Inside.Rows.{row_at, quantified, scheme_fits, lets_fit};
+ghost use Rattle.dh_decode.specs.Inside.Views.{place_of};
+
+use crate::places::{Place, RowKind};
+use dh_syntax::{Many, Op};
+use std::alloc::Global;
+
+/// The place, if the row has so many items.
+pub fn when(fits: bool, place: Place<'_>) -> Option<Place<'_>>
+    ensures { option_map place_of result ≡ when fits (place_of place.entry) }
+{
+    if fits { Some(place) } else { None }
+}
+
+/// A node of expressions only.
+fn operands<'a>(alloc: Global, fits: bool, op: Op) -> Option<Place<'a>>
+    ensures { option_map place_of result ≡ when fits (operands op []) }
+{
+    if fits {
+        Some(Place::Operands(op, Many::new(alloc)))
+    } else {
+        None
+    }
+}
+
+/// A function or the type of functions: its name is not written where that is `_`.
+fn quantified<'a>(op: Op, items: u128) -> Option<Place<'a>>
+    ensures { option_map place_of result ≡ quantified op items }
+{
+    match items {
+        2 => Some(Place::Quantify(op, "_", None)),
+        3 => Some(Place::Binder(op)),
+        _ => None,
+    }
+}
+
+/// Whether so many items make bindings and a body.
+fn lets_fit(items: u128) -> bool
+    ensures { result ≡ lets_fit items }
+{
+    items >= 4 && items % 3 == 1
+}
+
+/// The row of an array, by its first number and how many items come after it.
+fn row_of<'a>(alloc: Global, code: u64, items: u128) -> Option<Place<'a>>
+    ensures { option_map place_of result ≡ row_at code items }
+{
+    match code {
+        0 => when(items >= 2, Place::Applying(None)),
+        1 => quantified(Op::Lam, items),
+        2 => quantified(Op::Pi, items),
+        3 => when(items == 3, Place::Operating),
+        4 if items == 1 => Some(Place::Emptied),
+        4 => when(items >= 2, Place::Skipping(Op::List)),
+        5 => when(items == 2, Place::Skipping(Op::Some)),
+        6 if items == 2 => operands(alloc, true, Op::Merge(false)),
+        6 => operands(alloc, items == 3, Op::Merge(true)),
+        7 => when(items == 1, Place::Rowing(RowKind::Types)),
+        8 => when(items == 1, Place::Rowing(RowKind::Values)),
+        9 => when(items == 2, Place::Selecting),
+        10 => when(items >= 1, Place::Projecting),
+        11 => when(items == 1, Place::Rowing(RowKind::Alternatives)),
+        14 => operands(alloc, items == 3, Op::If),
+        15 => when(items == 1, Place::Numeral),
+        16 => when(items == 1, Place::SignedNumeral),
+        18 => when(
+            items % 2 == 1,
+            Place::Piece(Many::new(alloc), Many::new(alloc)),
+        ),
+        19 => operands(alloc, items == 1, Op::Assert),
+        24 => when(items >= 3, Place::Importing),
+        25 => when(lets_fit(items), Place::LetName(Many::new(alloc))),
+        26 => operands(alloc, items == 2, Op::Annot),
+        27 if items == 1 => operands(alloc, true, Op::ToMap(false)),
+        27 => operands(alloc, items == 2, Op::ToMap(true)),
+        28 => operands(alloc, items == 1, Op::EmptyList),
+        29 => when(items == 3, Place::Updating),
+        _ => None,
+    }
+}
+
+/// What an array is, by its first number and how many items come after it.
+pub fn row_at<'a>(alloc: Global, code: u64, items: u128) -> Option<Place<'a>>
+    ensures { option_map place_of result ≡ machine.row_at code items }
+{
+    row_of(alloc, code, items)
+}
+
+fn fits(scheme: u64, items: u128) -> bool
+    ensures { result ≡ scheme_fits scheme items }
+{
+    match scheme {
+        0 | 1 => items >= 4,
+        2..=5 => items >= 1,
+        6 => items == 1,
+        7 => items == 0,
+        _ => false,
+    }
+}
+
+/// Whether a location of this scheme has so many items behind it.
+pub fn scheme_fits(scheme: u64, items: u128) -> bool
+    ensures { result ≡ machine.scheme_fits scheme items }
+{
+    fits(scheme, items)
+}
