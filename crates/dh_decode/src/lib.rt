@@ -1,4 +1,13 @@
-//! Reading the binary form of an expression (the standard's "Binary encoding", RFC 7049).
+//! Reading an expression from its binary form (the standard's "Binary encoding", in CBOR, RFC 7049).
+//!
+//! `decode` looks at each head once, and keeps a stack of the arrays and maps that stand open, each with what was made of
+//! its items so far. It takes no memory for lengths that bytes only promise. Where an expression would nest deeper than
+//! 500, a stub takes its place and the reading goes on, since a fault behind it is told first. The machine that it runs,
+//! and the laws of that machine, are those of `dh_binary`.
+//!
+//! ```text
+//! decode(alloc, &[0x84, 0x03, 0x04, 0x82, 0x0F, 0x01, 0x82, 0x0F, 0x02])      // Ok: 1 + 2
+//! ```
 #![tactic(auto)]
 
 mod decoding;
@@ -21,3 +30,6 @@ mod texts;
 mod wants;
 
 pub use decoding::decode;
+
+#[cfg(test)]
+mod tests;
