@@ -19,14 +19,8 @@ use crate::places::Value;
 use crate::reading::Reader;
 use crate::stops::Stop;
 use dh_cbor::{CborFault, Mark, mark_at};
-use dh_syntax::{DecodeFault, Expr};
+use dh_syntax::{DecodeFault, Expr, MOST_NESTING, MOST_OPEN_ITEMS};
 use std::alloc::Global;
-
-/// How many arrays and maps may stand open.
-const MOST_OPEN: usize = 1100;
-
-/// How deep an expression may nest.
-const MOST_NESTING: u32 = 500;
 
 /// The fault of a head that cannot be read.
 fn fault_of(fault: CborFault) -> DecodeFault
@@ -84,7 +78,7 @@ fn is_over(frames: usize, mark: &Mark<'_>) -> bool
     ensures { (st : List (Frame Kept)) → length st ≡ frames → result ≡ nat_lt most_open_items (opens_with (the_mark mark.now) st) }
 {
     match mark {
-        Mark::Array(_) | Mark::Map(_) => frames >= MOST_OPEN,
+        Mark::Array(_) | Mark::Map(_) => frames >= MOST_OPEN_ITEMS as usize,
         Mark::Atom(_) | Mark::Tag(_) => false,
     }
 }

@@ -6,11 +6,8 @@ ghost use Rattle.dh_binary.specs.Machine.{Making, app, empty_list};
 ghost use Rattle.dh_decode.specs.Inside.Views.{part_of};
 
 use crate::parts::Part;
-use dh_syntax::{Builtin, Expr, Kid, Kids, Label, Many, Op};
+use dh_syntax::{Builtin, Expr, Kid, Kids, Label, MOST_NESTING, Many, Op};
 use std::alloc::{AllocError, Global};
-
-/// How deep an expression may nest.
-const MOST_NESTING: u32 = 500;
 
 /// The part that an expression is, which nests so deep.
 fn kept(alloc: Global, expression: Expr, nests: u32) -> Part

@@ -16,7 +16,7 @@ use dh_syntax::Op;
 use std::alloc::Global;
 
 /// The greatest index of a variable.
-const MOST_INDEX: u64 = 0x7FFF_FFFF;
+const MOST_INDEX: u64 = dh_syntax::MOST_INDEX as u64;
 
 /// A text that passes a test.
 pub fn called<'a>(test: Test, atom: Atom<'a>) -> Result<Value<'a>, Stop>

@@ -1,2 +1,3 @@
 mod BinaryDepthExamples
 mod BinaryFaultExamples
+mod StopExamples

@@ -10,11 +10,8 @@ ghost use Rattle.std.specs.Prelude.{map, option_map, []};
 
 use crate::notes::Notes;
 use crate::parts::Part;
-use dh_syntax::{Expr, Kid, Kids, Label, Op};
+use dh_syntax::{Expr, Kid, Kids, Label, MOST_NESTING, Op};
 use std::alloc::{AllocError, Global};
-
-/// How deep an expression may nest.
-const MOST_NESTING: u32 = 500;
 
 /// The parts of a node so far, from left to right, with what is kept of their places, and how deep a node of them
 /// nests.

@@ -10,9 +10,12 @@ use Rattle.dh_syntax.specs.declared.tokens.TextForm.TheVariants as forms
 use Rattle.dh_syntax.specs.declared.tokens.Token.{Token}
 use Rattle.dh_syntax.specs.Text.Derivation.{path, url, environment, missing, Derivation, lambda, pi, arrow, choice, lets, updates, merge_as, to_map_as, empty_list, assertion, annotation, operation, application, merging, some_of, to_map, import, field, project_none, project, project_by, natural, integer, truth, builtin, variable, text, brackets, list, union_none, union, record_type_none, record_type, record_none, record_of, untyped, typed, one_let, more_lets, one_update, more_updates, start, more_chunks, one_item, more_items, one_key, more_keys, one_alternative, more_alternatives, one_field, more_fields, alone, given, one_entry, more_entries, Entry}
 use Rattle.dh_examples.specs.Text.GrammarExamples.{tokens_of, name, key}
-use Rattle.dh_syntax.specs.Text.Lexing.{LexFault}
+use Rattle.dh_syntax.specs.Text.Lexing.{LexFault, lex}
 use Rattle.dh_syntax.specs.Text.Noting.{noted}
-use Rattle.dh_syntax.specs.Text.Offsets.{import_offsets, locating}
+use Rattle.dh_syntax.specs.Text.Offsets.{import_offsets, locating, SpellsWith}
+use Rattle.dh_syntax.specs.Text.Meaning.{meaning}
+use Rattle.std.proofs.lemmas.Bool.{leb-true}
+use lib.Utf8.{encode}
 
 abbrev found : Derivation → Result (List Token) LexFault → List ℕ
 found d (Ok tokens) = import_offsets tokens d
@@ -127,3 +130,21 @@ without_parts :
     ∷ record_none false false ∷ text forms.DoubleQuoted (start None) ∷ [])
     ≡ [] ∷ [] ∷ [] ∷ [] ∷ [] ∷ [] ∷ [] ∷ [] ∷ [] ∷ []
 without_parts = refl
+
+-- ---- a text with its imports: `./a + ./b`, where the offsets are behind the locations
+
+two_imports : SpellsWith (codes "./a + ./b") (meaning (operation binary.Plus (here "a") (here "b"))) (3 ∷ 9 ∷ [])
+unfolding lex encode
+two_imports = (
+  record {
+    is_text = (leb-true _ _ refl, (codes "./a + ./b", (refl, refl)));
+    tokens = _;
+    lexed = refl;
+    tree = operation binary.Plus (here "a") (here "b");
+    derives = record { derived = refl; written = ((refl, refl), ((refl, refl), ((refl, refl), ((refl, refl), tt)))) };
+    few_open = refl;
+    means = refl;
+    spellable = ((refl, ((refl, tt), ((refl, tt), tt))), leb-true _ _ refl, refl);
+  },
+  refl,
+)
