@@ -9,7 +9,7 @@ ghost use Rattle.dh_syntax.specs.Expressions.Bridge.{term, row_of};
 ghost use Rattle.dh_syntax.specs.Expressions.Tree.{Node};
 ghost use Rattle.dh_encode.specs.Inside.Items.{row_items, CanEncode, CanEncodeAll};
 
-use crate::names::{code_of, name_of};
+use crate::names::code_of;
 use crate::parts::one;
 use crate::writer::Writer;
 use dh_syntax::{BinOp, Expr, Kid, Op};
@@ -48,7 +48,7 @@ impl Writer {
         ensures { OnOk result (self.new ≡ self.old ++ enc (Node op.now (row_of kids.now))) }
     {
         match op {
-            Op::Builtin(builtin) => self.push_text(name_of(*builtin)),
+            Op::Builtin(builtin) => self.push_text(builtin.name()),
             Op::Bool(value) => self.push_truth(*value),
             Op::Nat(n) => self.push_natural_literal(*n),
             Op::Int(n) => self.push_integer_literal(*n),

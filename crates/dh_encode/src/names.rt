@@ -5,10 +5,10 @@ ghost use Rattle.std.specs.List.{concat};
 ghost use Rattle.dh_syntax.specs.Bytes.Cbor.{text};
 ghost use Rattle.dh_syntax.specs.Bytes.Binary.{variable_item};
 ghost use Rattle.dh_syntax.specs.Expressions.Numbers.{bytes_eq};
-ghost use Rattle.dh_syntax.specs.Expressions.Operators.{builtin_name, op_code};
+ghost use Rattle.dh_syntax.specs.Expressions.Operators.{op_code};
 
 use crate::writer::Writer;
-use dh_syntax::{BinOp, Builtin, Label};
+use dh_syntax::{BinOp, Label};
 use std::alloc::AllocError;
 
 impl Writer {
@@ -67,43 +67,5 @@ pub(crate) fn code_of(operator: BinOp) -> u32
         BinOp::Fallback => 11,
         BinOp::Equivalent => 12,
         BinOp::Complete => 13,
-    }
-}
-
-/// The name of a built-in (`dhall.abnf`, "builtin").
-pub(crate) fn name_of(builtin: Builtin) -> &'static str
-    ensures { result.now ≡ builtin_name builtin }
-{
-    match builtin {
-        Builtin::TypeConst => "Type",
-        Builtin::Kind => "Kind",
-        Builtin::Sort => "Sort",
-        Builtin::Bool => "Bool",
-        Builtin::Natural => "Natural",
-        Builtin::Integer => "Integer",
-        Builtin::Text => "Text",
-        Builtin::List => "List",
-        Builtin::Optional => "Optional",
-        Builtin::None => "None",
-        Builtin::NaturalFold => "Natural/fold",
-        Builtin::NaturalBuild => "Natural/build",
-        Builtin::NaturalIsZero => "Natural/isZero",
-        Builtin::NaturalEven => "Natural/even",
-        Builtin::NaturalOdd => "Natural/odd",
-        Builtin::NaturalToInteger => "Natural/toInteger",
-        Builtin::NaturalShow => "Natural/show",
-        Builtin::NaturalSubtract => "Natural/subtract",
-        Builtin::IntegerShow => "Integer/show",
-        Builtin::IntegerNegate => "Integer/negate",
-        Builtin::IntegerClamp => "Integer/clamp",
-        Builtin::ListBuild => "List/build",
-        Builtin::ListFold => "List/fold",
-        Builtin::ListLength => "List/length",
-        Builtin::ListHead => "List/head",
-        Builtin::ListLast => "List/last",
-        Builtin::ListIndexed => "List/indexed",
-        Builtin::ListReverse => "List/reverse",
-        Builtin::TextShow => "Text/show",
-        Builtin::TextReplace => "Text/replace",
     }
 }

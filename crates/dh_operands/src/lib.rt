@@ -12,7 +12,6 @@
 mod alternatives;
 mod annotations;
 mod bindings;
-mod builtins;
 mod chunks;
 mod gathering;
 mod items;

@@ -6,7 +6,6 @@ ghost use Rattle.dh_operands.specs.Words.{word_of, key_of};
 ghost use Rattle.dh_syntax.specs.declared.tokens.TokenKind.TheVariants as kinds;
 ghost use Rattle.dh_syntax.specs.Text.Derivation.{name_label, key_label};
 
-use crate::builtins::name_of_builtin;
 use dh_syntax::{Builtin, Keyword, Label, TokenKind};
 use std::alloc::{AllocError, Global};
 
@@ -89,7 +88,7 @@ impl EntryKey {
             EntryKey::Name(word) => word.label().copied(alloc),
             EntryKey::Truth(true) => Label::new(alloc, "True"),
             EntryKey::Truth(false) => Label::new(alloc, "False"),
-            EntryKey::Builtin(builtin) => Label::new(alloc, name_of_builtin(*builtin)),
+            EntryKey::Builtin(builtin) => Label::new(alloc, builtin.name()),
             EntryKey::Some => Label::new(alloc, "Some"),
         }
     }
@@ -101,7 +100,7 @@ impl EntryKey {
             EntryKey::Name(word) => Ok(word.into_label()),
             EntryKey::Truth(true) => Label::new(alloc, "True"),
             EntryKey::Truth(false) => Label::new(alloc, "False"),
-            EntryKey::Builtin(builtin) => Label::new(alloc, name_of_builtin(builtin)),
+            EntryKey::Builtin(builtin) => Label::new(alloc, builtin.name()),
             EntryKey::Some => Label::new(alloc, "Some"),
         }
     }
