@@ -52,20 +52,5 @@ pub(crate) fn is_underscore(label: &Label) -> bool
 pub(crate) fn code_of(operator: BinOp) -> u32
     ensures { result ≡ op_code operator }
 {
-    match operator {
-        BinOp::Or => 0,
-        BinOp::And => 1,
-        BinOp::Equal => 2,
-        BinOp::NotEqual => 3,
-        BinOp::Plus => 4,
-        BinOp::Times => 5,
-        BinOp::TextAppend => 6,
-        BinOp::ListAppend => 7,
-        BinOp::Combine => 8,
-        BinOp::Prefer => 9,
-        BinOp::CombineTypes => 10,
-        BinOp::Fallback => 11,
-        BinOp::Equivalent => 12,
-        BinOp::Complete => 13,
-    }
+    u32::from(operator.code())
 }
