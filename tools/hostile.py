@@ -1,10 +1,11 @@
 #!/usr/bin/env python3
 """Runs the built `dhall` on hostile inputs, devices and command lines, and compares each run with a reference.
 
-The reference is a small parser and encoder in this file for `encode`, and for `decode` expressions.py beside it, which
-makes expressions with what they are written as, and a table of bytes whose answers were worked out by hand; nothing of
-it comes from the program. Usage: tools/hostile.py [PROGRAM] [--seed N] [--rounds N]. PROGRAM is crates/dhall/out/dhall where it is left
-out (`make build` makes it). It prints a summary, and exits with 1 if a run did anything else than what is stated.
+The reference is expressions.py beside it, which makes expressions with texts that spell them and with what they are
+written as, and two tables, of texts and of bytes, whose answers were worked out by hand; nothing of it comes from the
+program. Of a spoilt text or of spoilt bytes it asks for one fault in the input, or for an answer that survives the way
+back. Usage: tools/hostile.py [PROGRAM] [--seed N] [--rounds N]. PROGRAM is crates/dhall/out/dhall where it is left out
+(`make build` makes it). It prints a summary, and exits with 1 if a run did anything else than what is stated.
 """
 
 import argparse
@@ -21,12 +22,9 @@ import time
 import expressions
 
 MOST_BYTES = 1_048_576
-MOST_OPEN = 500
-MOST_NESTING = 500
 SECONDS = 10
 
 OK, TEXT, USAGE, READ, WRITE, MEMORY = 0, 1, 5, 6, 7, 9
-SYNTAX_LINE = b"syntax at 0\n"
 READ_LINE = b"read failed\n"
 WRITE_LINE = b"write failed\n"
 MEMORY_LINE = b"out of memory\n"
@@ -34,119 +32,9 @@ TOO_LARGE = b"larger than 1048576 bytes\n"
 BYTES_FAULT = re.compile(rb"(?:cut|indefinite length|float|tag|number too wide|shape|bytes left) at (\d+)\n"
                          rb"|larger than 1048576 bytes\n|nested deeper than 500\n")
 
-LEVELS = {b"||": 3, b"+": 4, b"&&": 7, b"*": 11}
-CODES = {b"||": 0, b"&&": 1, b"+": 4, b"*": 5}
-TOKEN = re.compile(rb"(?P<white>(?:[ \t\n]|\r\n)+)|(?P<number>0|[1-9][0-9]*)|(?P<name>[A-Za-z_][A-Za-z0-9_/-]*)"
-                   rb"|(?P<mark>\|\||&&|[+*()])")
+TEXT_FAULT = re.compile(rb"(?:not UTF-8|syntax|number too wide|left out of this profile) at (\d+)\n"
+                        rb"|larger than 1048576 bytes\n|nested deeper than 500\n")
 
-
-# The reference: bytes to the binary form, or None where they spell nothing.
-
-def tokens_of(text):
-    """The tokens, each with whether white space stands before it; None where no form fits."""
-    tokens, at, gap = [], 0, True
-    while at < len(text):
-        found = TOKEN.match(text, at)
-        if found is None:
-            return None
-        at = found.end()
-        if found.lastgroup == "white":
-            gap = True
-            continue
-        piece = found.group()
-        if found.lastgroup == "name" and piece not in (b"True", b"False"):
-            return None
-        if found.lastgroup == "number" and (len(piece) > 20 or int(piece) >= 2 ** 64):
-            return None
-        tokens.append((found.lastgroup, piece, gap))
-        gap = False
-    return tokens
-
-
-def head(major, n):
-    """A head in its shortest form (RFC 7049, section 2.1)."""
-    if n < 24:
-        return bytes([major << 5 | n])
-    for code, width in ((24, 1), (25, 2), (26, 4), (27, 8)):
-        if n < 256 ** width:
-            return bytes([major << 5 | code]) + n.to_bytes(width, "big")
-    raise ValueError(n)
-
-
-def leaf(kind, piece):
-    """The binary form of a number or a truth value, with its nesting. Forms are lists of pieces, joined at the end."""
-    if kind == "number":
-        return (0, [b"\x82\x0f" + head(0, int(piece))])
-    return (0, [b"\xf5" if piece == b"True" else b"\xf4"])
-
-
-def join(output, operators):
-    """Puts the operator on top between the two operands on top. None where the operation nests too deep."""
-    right_nests, right = output.pop()
-    left_nests, left = output.pop()
-    nests = max(left_nests, right_nests) + 1
-    if nests > MOST_NESTING:
-        return None
-    form = [bytes([0x84, 3, CODES[operators.pop()]]), left, right]
-    output.append((nests, form))
-    return nests
-
-
-def flat(form):
-    """The bytes of a nested list of pieces."""
-    pieces, rest = [], [form]
-    while rest:
-        here = rest.pop()
-        if isinstance(here, bytes):
-            pieces.append(here)
-        else:
-            rest.extend(reversed(here))
-    return b"".join(pieces)
-
-
-def joined_down_to(level, output, operators):
-    """Joins the operators on top that bind at least as tightly, down to a bracket."""
-    while operators and operators[-1] != b"(" and LEVELS[operators[-1]] >= level:
-        if join(output, operators) is None:
-            return False
-    return True
-
-
-def encoded(text):
-    """The binary form of what a text spells, or None where it spells nothing."""
-    tokens = tokens_of(text) if len(text) <= MOST_BYTES else None
-    if tokens is None:
-        return None
-    output, operators, operand_next, brackets = [], [], True, 0
-    for kind, piece, gap in tokens:
-        if operand_next and operators and operators[-1] == b"+" and not gap:
-            return None
-        if operand_next != (kind != "mark" or piece == b"("):
-            return None
-        if kind != "mark":
-            output.append(leaf(kind, piece))
-            operand_next = False
-        elif piece == b"(":
-            operators.append(piece)
-            brackets += 1
-            if brackets + 1 > MOST_OPEN:
-                return None
-        elif not joined_down_to(LEVELS.get(piece, 0), output, operators):
-            return None
-        elif piece == b")":
-            if not operators:
-                return None
-            operators.pop()
-            brackets -= 1
-        else:
-            operators.append(piece)
-            operand_next = True
-    if operand_next or not joined_down_to(0, output, operators) or operators:
-        return None
-    return flat(output[0][1])
-
-
-# Runs.
 
 class Findings:
     """What was run and what was found."""
@@ -187,111 +75,7 @@ def expect(findings, name, ran, *wanted):
         findings.report(name, f"was {show[0]}, wanted {show[1]}")
 
 
-def answer(text):
-    """What `encode` is to write of a text, and its status."""
-    form = encoded(text)
-    return (TEXT, b"", SYNTAX_LINE) if form is None else (OK, form, b"")
-
-
-def check_text(findings, group, name, text):
-    expect(findings, name, run(findings, group, name, ["encode"], input=text), answer(text))
-
-
 # Texts.
-
-ALPHABET = [bytes([b]) for b in b" \t\n\r019(+)*|&TtF_-/.\x00\x7f\x80\xc3\xff\xef{\"'"]
-
-
-def short_texts(findings):
-    """Every string of up to two bytes of the alphabet, and every single byte."""
-    for byte in range(256):
-        check_text(findings, "one byte", f"byte {byte:02x}", bytes([byte]))
-    for text in [b""] + [a + b for a in ALPHABET for b in ALPHABET]:
-        check_text(findings, "up to two bytes", f"bytes {text.hex() or 'none'}", text)
-
-
-PIECES = [b"True", b"False", b"0", b"1", b"24", b"18446744073709551615", b"18446744073709551616", b"(", b")", b"+",
-          b"||", b"&&", b"*", b"|", b"&", b"-", b"x", b"True1", b"\r\n", b"\r", b"\t", b"--", b"{-", b"\xce\xbb"]
-
-
-def expression(source, depth):
-    """A text that spells an expression."""
-    if depth == 0 or source.random() < 0.2:
-        return source.choice([b"True", b"False", str(source.randrange(2 ** source.randrange(1, 65))).encode()])
-    left, right = expression(source, depth - 1), expression(source, depth - 1)
-    gaps = [b"", b" ", b"\n", b"\t \r\n"]
-    mark = source.choice(list(LEVELS))
-    after = source.choice(gaps[1:]) if mark == b"+" else source.choice(gaps)
-    text = left + source.choice(gaps) + mark + after + right
-    return b"(" + text + b")" if source.random() < 0.4 else text
-
-
-def changed(source, text):
-    """The text with one byte left out, put in or changed."""
-    at = source.randrange(len(text))
-    more = source.choice([b"", source.choice(ALPHABET), source.choice(PIECES)])
-    return text[:at] + more + text[at + source.randrange(2):]
-
-
-def random_texts(findings, source, rounds):
-    for n in range(rounds):
-        check_text(findings, "random bytes", f"random bytes {n}", source.randbytes(source.randrange(3, 80)))
-        soup = b"".join(source.choice(PIECES) + source.choice([b"", b" "]) for _ in range(source.randrange(1, 12)))
-        check_text(findings, "token soup", f"soup {soup!r}", soup)
-        good = expression(source, source.randrange(1, 7))
-        check_text(findings, "expressions", f"expression {good!r}", good)
-        bad = changed(source, good)
-        check_text(findings, "changed expressions", f"changed {bad!r}", bad)
-
-
-def deep_texts(findings):
-    """Brackets and operators below, at and past each limit."""
-    for n in (1, 498, 499, 500, 501, 100_000):
-        rows = [("brackets", b"(" * n + b"1" + b")" * n), ("unclosed", b"(" * n + b"1"), ("unopened", b"1" + b")" * n),
-                ("mixed", b"(1 + " * n + b"1" + b")" * n), ("left", b"(" * n + b"1" + b" * 2)" * n)]
-        rows += [("chain of " + mark.decode(), (b"1 " + mark + b" ") * n + b"1") for mark in LEVELS]
-        rows += [("operators alone", mark * n) for mark in (b"+ ", b"* ", b"||", b"&&")]
-        for what, text in rows:
-            check_text(findings, "deep", f"{what}, {n}", text)
-
-
-def long_texts(findings):
-    """Long names, and numbers at each limit of a head and of the language."""
-    limits = [0, 23, 24, 255, 256, 65535, 65536, 2 ** 32 - 1, 2 ** 32, 2 ** 63 - 1, 2 ** 63, 2 ** 64 - 1, 2 ** 64,
-              2 ** 64 + 1, 10 ** 19, 10 ** 20 - 1, 10 ** 20, 2 ** 65, 2 ** 128]
-    for n in limits:
-        for text in (b"%d" % n, b"0%d" % n, b"1 + %d" % n, b"%dx" % n, b"-%d" % n, b"%d.0" % n):
-            check_text(findings, "numbers", text.decode(), text)
-    for n in (20, 21, 1_000, 100_000):
-        for digit in (b"0", b"1", b"9"):
-            check_text(findings, "numbers", f"{n} digits {digit}", digit * n)
-    for n in (1, 100, 10_000, 1_000_000):
-        for name in (b"T" * n, b"True" * n, b"True" + b"/" * n, b"False" + b"-" * n, b"_" * n):
-            check_text(findings, "names", f"name {name[:8]}.. of {len(name)}", name)
-
-
-def balanced(n):
-    """A sum of 2^n operands whose nesting is n."""
-    text = b"1"
-    for _ in range(n):
-        text = b"(" + text + b"+ " + text + b")"
-    return text
-
-
-def large_texts(findings):
-    """A megabyte, and one byte more, of each kind, and far more than that."""
-    kinds = {byte.hex(): byte for byte in ALPHABET}
-    kinds.update({"sum": b"1 + ", "product": b"1*", "pairs": b"()", "ands": b"&&", "words": b"True "})
-    for size in (MOST_BYTES - 1, MOST_BYTES, MOST_BYTES + 1):
-        for what, piece in kinds.items():
-            check_text(findings, "megabyte", f"{size} bytes of {what}", (piece * (size // len(piece) + 1))[:size])
-        for what, text in (("a number", b"7"), ("a large sum", balanced(17))):
-            check_text(findings, "megabyte", f"{what} and blanks to {size}", text + b" " * (size - len(text)))
-            check_text(findings, "megabyte", f"blanks to {size} and {what}", b" " * (size - len(text)) + text)
-    check_text(findings, "megabyte", "five megabytes", b"1" + b" " * 5_000_000)
-
-
-# Bytes.
 
 def refused(line):
     return (TEXT, b"", line + b"\n")
@@ -300,6 +84,211 @@ def refused(line):
 def written(form):
     return (OK, form, b"")
 
+
+def encode(findings, group, name, text, *wanted):
+    ran = run(findings, group, name, ["encode"], input=text)
+    expect(findings, name, ran, *wanted)
+    return ran
+
+
+def check_text(findings, group, name, text):
+    """One line of a fault in the text, or a binary form that is the same after the way to its printed text and back."""
+    ran = run(findings, group, name, ["encode"], input=text)
+    if not expect_some_answer(findings, name, ran, TEXT_FAULT, text):
+        return
+    back = run(findings, group + ", printed", name, ["decode"], input=ran[1])
+    if back is not None and back[0] == OK and len(back[1]) <= MOST_BYTES:
+        encode(findings, group + ", again", name, back[1], written(ran[1]), refused(b"nested deeper than 500"))
+    elif back is not None and back[0] != OK and len(ran[1]) <= MOST_BYTES:
+        findings.report(name, f"its bytes were answered by {back}")
+
+
+def natural(n):
+    return expressions.encoded(("nat", n))
+
+
+DIGEST = b"sha256:" + b"0" * 64
+TEXTS = [
+    (b"1 + 2", written(bytes.fromhex("840304820f01820f02"))),
+    (b"1 +2", written(bytes.fromhex("8300820f01821002"))),
+    (b"1+ 2", written(bytes.fromhex("840304820f01820f02"))),
+    (b"x", written(bytes.fromhex("82617800"))),
+    (b"_@3", written(bytes.fromhex("03"))),
+    (b"\xce\xbb(_ : Bool) -> _", written(bytes.fromhex("830164426f6f6c00"))),
+    (b"\\(x : Bool) -> x", written(bytes.fromhex("8401617864426f6f6c82617800"))),
+    (b"Bool -> Bool", written(bytes.fromhex("830264426f6f6c64426f6f6c"))),
+    (b"{=}", written(bytes.fromhex("8208a0"))),
+    (b"{}", written(bytes.fromhex("8207a0"))),
+    (b"<>", written(bytes.fromhex("820ba0"))),
+    (b"{ b = True, a.c = False }", written(bytes.fromhex("8208a261618208a16163f46162f5"))),
+    (b"{ a = True, a = False }", written(bytes.fromhex("8208a161618403" "08f5f4"))),
+    (b"{ x }", written(bytes.fromhex("8208a1617882617800"))),
+    (b"[ True, ]", written(bytes.fromhex("8304f6f5"))),
+    (b"[] : List Bool", written(bytes.fromhex("820464426f6f6c"))),
+    (b"merge x y : Bool", written(bytes.fromhex("840682617800826179" "0064426f6f6c"))),
+    (b"(merge x y) : Bool", written(bytes.fromhex("83181a8306826178008261790064426f6f6c"))),
+    (b"x with a.b = True", written(bytes.fromhex("84181d8261780082616161" "62f5"))),
+    (b"\"a${x}b\"", written(bytes.fromhex("841261618261780061" "62"))),
+    (b"''\n  a\n   b''", written(bytes.fromhex("821264610a2062"))),
+    (b"./a as Text", written(bytes.fromhex("851818f601036161"))),
+    (b"missing " + DIGEST, written(bytes.fromhex("84181858221220" + "00" * 32 + "0007"))),
+    (b"-0", written(bytes.fromhex("821000"))),
+    (b"", refused(b"syntax at 0")),
+    (b" ", refused(b"syntax at 1")),
+    (b"(", refused(b"syntax at 1")),
+    (b"1 )", refused(b"syntax at 2")),
+    (b"[]", refused(b"syntax at 2")),
+    (b"let x = 1", refused(b"syntax at 9")),
+    (b"f(x)", refused(b"syntax at 1")),
+    (b"1 2 +3 (", refused(b"syntax at 8")),
+    (b"{ a : x, a : y }", refused(b"syntax at 9")),
+    (b"< A | A >", refused(b"syntax at 6")),
+    (b"x.{ a, a }", refused(b"syntax at 7")),
+    (b"1@2147483648", refused(b"syntax at 1")),
+    (b"x@2147483648", refused(b"number too wide at 2")),
+    (b"340282366920938463463374607431768211456", refused(b"number too wide at 0")),
+    (b"340282366920938463463374607431768211455", written(natural(2 ** 128 - 1))),
+    (b"-170141183460469231731687303715884105729", refused(b"number too wide at 0")),
+    (b"1.5", refused(b"left out of this profile at 0")),
+    (b"0x1.5", refused(b"left out of this profile at 0")),
+    (b"2020-01-02", refused(b"left out of this profile at 0")),
+    (b"\"\\q", refused(b"syntax at 1")),
+    (b"\"${ 1.5", refused(b"left out of this profile at 4")),
+    (b"\"a", refused(b"syntax at 0")),
+    (b"{- {- -}", refused(b"syntax at 0")),
+    (b"a \xff", refused(b"not UTF-8 at 2")),
+    (b"1" + b" " * MOST_BYTES, refused(b"larger than 1048576 bytes")),
+    (b"(" * 499 + b"1" + b")" * 499, written(natural(1))),
+    (b"(" * 500 + b"1" + b")" * 500, refused(b"nested deeper than 500")),
+    (b"[" * 500 + b"] )", refused(b"syntax at 502")),
+    (b"1 + " * 500 + b"1", written(b"\x84\x03\x04" * 500 + natural(1) + natural(1) * 500)),
+    (b"1 + " * 501 + b"1", refused(b"nested deeper than 500")),
+    (b"1 + " * 501 + b"1 )", refused(b"syntax at 2006")),
+]
+
+
+def worked_texts(findings):
+    for text, wanted in TEXTS:
+        encode(findings, "worked texts", f"text {text[:60]!r}", text, wanted)
+
+
+ALPHABET = [bytes([b]) for b in b" \t\n\r019(+)*|&TtF_-/.\x00\x7f\x80\xc3\xff\xef{\"'"]
+
+
+def short_texts(findings):
+    """Every single byte, and every two bytes of the alphabet."""
+    for byte in range(256):
+        check_text(findings, "one byte", f"byte {byte:02x}", bytes([byte]))
+    for text in [a + b for a in ALPHABET for b in ALPHABET]:
+        check_text(findings, "two bytes", f"bytes {text.hex()}", text)
+
+
+PIECES = [word.encode() for word in (
+    "True 0 1 24 +1 -0 18446744073709551616 x `a b` ( ) [ ] { } < > , . : = @ @1 | -> → λ \\ ∀ forall + - * ++ # ? || && == != "
+    "/\\ ∧ // ⫽ //\\\\ ⩓ === ≡ :: if then else let in as with merge toMap Some missing assert using Text Location List "
+    "Natural/fold ./a ../b/c ~/d /e \"f\" http://h/p https://h env:X \" ${ '' ''' ''${ \\n \\u{41} sha256: é {- -} -- 1.5 1e5 "
+    "NaN").split()] + [b"\n", b"\r\n", b"\t"]
+
+
+def changed(source, text):
+    """The text with some bytes left out, put in or changed at one place."""
+    at = source.randrange(len(text) + 1)
+    more = source.choice([b"", source.choice(ALPHABET), source.choice(PIECES), b" " + source.choice(PIECES) + b" "])
+    return text[:at] + more + text[at + source.randrange(3):]
+
+
+def random_texts(findings, source, rounds):
+    """Random expressions as they are printed and in other ways; spoilt ones, cut ones, tokens in a row, random bytes."""
+    maker = expressions.Maker(source)
+    for n in range(rounds):
+        check_text(findings, "random bytes as text", f"random bytes {n}", source.randbytes(source.randrange(3, 80)))
+        soup = b"".join(source.choice(PIECES) + source.choice([b"", b" "]) for _ in range(source.randrange(1, 12)))
+        check_text(findings, "token soup", f"soup {soup!r}", soup)
+        e = maker.expression(source.randrange(1, 6))
+        form = expressions.encoded(e)
+        layout, text = expressions.printed(e).encode(), expressions.spelled(source, e).encode()
+        encode(findings, "layouts", f"layout {n} {layout[:60]!r}", layout, written(form))
+        encode(findings, "texts", f"text {n} {text[:60]!r}", text, written(form))
+        for given in (layout, text):
+            bad = changed(source, given)
+            check_text(findings, "changed texts", f"changed {bad!r}", bad)
+        k = source.randrange(len(text))
+        check_text(findings, "cut texts", f"cut to {k} {text[:60]!r}", text[:k])
+
+
+OPENINGS = ["(", "[", "{ a = ", "< A : ", "\"${", "''${", "if ", "if x then ", "if x then y else ", "let x = ", "let x : ",
+            "let x = y in ", "λ(x : ", "λ(x : y) → ", "∀(x : ", "x → ", "merge ", "merge x ", "Some ", "toMap ", "assert : ",
+            "x with a = ", "x : ", "x.(", "x + ", "x ", "x.{ a, ", "f [ x, ", "x ? ", "x :: ", "{- ", "-", "x.a", "x@1 "]
+
+
+def deep_texts(findings):
+    """Each production opened below, at and past the limits and never closed, and each operator in long chains."""
+    for n in (1, 499, 500, 501, 20_000):
+        for opening in OPENINGS:
+            check_text(findings, "deep", f"{opening!r}, {n}", (opening * n).encode())
+            check_text(findings, "deep", f"{opening!r} and 1, {n}", (opening * n + " 1").encode())
+        for mark in expressions.CODES:
+            check_text(findings, "chains", f"chain of {mark}, {n}", (f"x {mark} " * n + "x").encode())
+        for what, text in (("selections", "x" + ".a" * n), ("arguments", "f" + " x" * n), ("lets", "let x = 1 " * n + "in x"),
+                           ("updates", "x" + " with a = x" * n)):
+            check_text(findings, "chains", f"{what}, {n}", text.encode())
+
+
+def long_texts(findings):
+    """Long names, and numbers at each limit of a head and of the language."""
+    limits = [0, 23, 24, 255, 256, 65535, 65536, 2 ** 32 - 1, 2 ** 32, 2 ** 64 - 1, 2 ** 64, 2 ** 127 - 1, 2 ** 127, 2 ** 128 - 1]
+    wide = refused(b"number too wide at 0")
+    for n in limits:
+        for what, text in (("", b"%d" % n), ("hexadecimal ", b"0x%x" % n), ("hexadecimal with zeros ", b"0x00%x" % n)):
+            encode(findings, "numbers", f"{what}{n}", text, written(natural(n)))
+        encode(findings, "numbers", f"zeros and {n}", b"00%d" % n, refused(b"syntax at 1"))
+        signed = written(expressions.encoded(("int", -n))) if n <= 2 ** 127 else wide
+        encode(findings, "numbers", f"-{n}", b"-%d" % n, signed)
+    for n in (40, 1_000, 1_000_000):
+        for digit in (b"1", b"9"):
+            encode(findings, "numbers", f"{n} digits {digit}", digit * n, wide)
+        encode(findings, "numbers", f"{n} zeros", b"0" * n, refused(b"syntax at 1"))
+    for n in (2, 100, 10_000, 1_000_000):
+        for name in ("T" * n, "True" + "x" * n, "x" + "/" * n, "_" * n):
+            form = written(expressions.encoded(("var", name, 0)))
+            encode(findings, "names", f"name {name[:8]}.. of {len(name)}", name.encode(), form)
+
+
+def balanced(n):
+    """A sum of 2^n operands whose nesting is n, and its binary form."""
+    text, form = b"1", natural(1)
+    for _ in range(n):
+        text = b"(" + text + b"+ " + text + b")"
+        form = b"\x84\x03\x04" + form * 2
+    return text, form
+
+
+def large_texts(findings):
+    """A megabyte, and one byte more, of each kind; and large expressions that are answered in time."""
+    kinds = {byte.hex(): byte for byte in ALPHABET}
+    kinds.update({piece.decode(): piece + b" " for piece in PIECES})
+    for size in (MOST_BYTES, MOST_BYTES + 1):
+        for what, piece in kinds.items():
+            check_text(findings, "megabyte", f"{size} bytes of {what!r}", (piece * (size // len(piece) + 1))[:size])
+    encode(findings, "large", "a balanced sum", balanced(16)[0], written(balanced(16)[1]))
+    order = [f"f{k * 7919 % 30_000}" for k in range(30_000)]
+    lets = ("var", "x", 0)
+    for k in reversed(range(400)):
+        lets = ("let", f"x{k}", None, ("nat", k), lets)
+    rows = {
+        "30,000 fields": ("{ " + ", ".join(f"{x} = True" for x in order) + " }", ("record", [(x, ("bool", True)) for x in order])),
+        "100,000 elements": ("[ " + ", ".join(["1"] * 100_000) + " ]", ("list", [("nat", 1)] * 100_000)),
+        "50,000 interpolations": ("\"" + "${x} a" * 50_000 + "\"", ("text", [""] + [" a"] * 50_000, [("var", "x", 0)] * 50_000)),
+        "20,000 imports": ("[ " + ", ".join(f"./a{k}" for k in range(20_000)) + " ]",
+                           ("list", [("import", ("./", (f"a{k}",)), 0, None) for k in range(20_000)])),
+        "400 lets": ("".join(f"let x{k} = {k} " for k in range(400)) + "in x", lets),
+    }
+    for name, (text, e) in rows.items():
+        encode(findings, "large", name, text.encode(), written(expressions.encoded(e)))
+    encode(findings, "large", "five megabytes", b"1" + b" " * 5_000_000, refused(b"larger than 1048576 bytes"))
+
+
+# Bytes.
 
 def decode(findings, group, name, form, *wanted):
     ran = run(findings, group, name, ["decode"], input=form)
@@ -409,7 +398,6 @@ def large_bytes(findings):
     for k in range(400):
         lets = ("let", f"x{k}", None, ("nat", k), lets)
     large["400 lets"] = lets
-    sys.setrecursionlimit(100_000)
     shuffled = random.Random(7)
     for name, e in large.items():
         rows = e[1] if e[0] == "record" else None
@@ -430,13 +418,14 @@ def devices(findings):
     def closed(*numbers):
         return lambda: [os.close(n) for n in numbers]
 
-    good, bad = (OK, b"\xf5", b""), (TEXT, b"", SYNTAX_LINE)
+    line = b"syntax at 1\n"
+    good, bad = (OK, b"\xf5", b""), (TEXT, b"", line)
     rows = [
         ("stdin closed", b"", closed(0), {}, (READ, b"", READ_LINE)),
         ("stdout closed", b"True", closed(1), {}, (WRITE, b"", WRITE_LINE)),
-        ("stdout closed, refused", b"x", closed(1), {}, bad),
+        ("stdout closed, refused", b"(", closed(1), {}, bad),
         ("stderr closed", b"True", closed(2), {}, good),
-        ("stderr closed, refused", b"x", closed(2), {}, (WRITE, b"", b"")),
+        ("stderr closed, refused", b"(", closed(2), {}, (WRITE, b"", b"")),
         ("both closed", b"True", closed(1, 2), {}, (WRITE, b"", b"")),
         ("all closed", b"", closed(0, 1, 2), {}, (WRITE, b"", b"")),
     ]
@@ -444,9 +433,9 @@ def devices(findings):
     with open("/dev/full", "wb") as full:
         rows += [
             ("stdout full", b"True", None, {"stdout": full}, (WRITE, None, WRITE_LINE)),
-            ("stdout full, refused", b"x", None, {"stdout": full}, (TEXT, None, SYNTAX_LINE)),
+            ("stdout full, refused", b"(", None, {"stdout": full}, (TEXT, None, line)),
             ("stderr full", b"True", None, {"stderr": full}, (OK, b"\xf5", None)),
-            ("stderr full, refused", b"x", None, {"stderr": full}, (WRITE, b"", None)),
+            ("stderr full, refused", b"(", None, {"stderr": full}, (WRITE, b"", None)),
             ("both full", b"True", None, {"stdout": full, "stderr": full}, (WRITE, None, None)),
             ("stdin is a folder", None, None, {"stdin": folder}, (READ, b"", READ_LINE)),
         ]
@@ -456,15 +445,17 @@ def devices(findings):
     os.close(folder)
     for path in ("/dev/null", "/dev/zero", "/dev/urandom"):
         with open(path, "rb") as endless:
-            expect(findings, path, run(findings, "devices", path, ["encode"], stdin=endless), bad)
+            ran = run(findings, "devices", path, ["encode"], stdin=endless)
+            what = b"syntax at 0" if path == "/dev/null" else b"larger than 1048576 bytes"
+            expect(findings, path, ran, refused(what))
 
 
 def broken_pipes(findings):
     """Readers that are gone: the program is not killed by the signal of a broken pipe, but tells the failure."""
     for name, stream, text, wanted in (
             ("stdout without a reader", "stdout", b"True", (WRITE, None, WRITE_LINE)),
-            ("stdout without a reader, much", "stdout", balanced(16), (WRITE, None, WRITE_LINE)),
-            ("stderr without a reader", "stderr", b"x", (WRITE, b"", None))):
+            ("stdout without a reader, much", "stdout", balanced(16)[0], (WRITE, None, WRITE_LINE)),
+            ("stderr without a reader", "stderr", b"(", (WRITE, b"", None))):
         reader, writer = os.pipe()
         os.close(reader)
         expect(findings, name, run(findings, "devices", name, ["encode"], input=text, **{stream: writer}), wanted)
@@ -473,7 +464,8 @@ def broken_pipes(findings):
 
 def slow_pipes(findings):
     """Input that comes byte by byte, and output that is taken late."""
-    for name, text, step in (("input byte by byte", b"(1 + 22) * 333", 1), ("much output, taken late", balanced(16), 7000)):
+    for name, (text, form), step in (("input byte by byte", (b"1 + 2", TEXTS[0][1][1]), 1),
+                                     ("much output, taken late", balanced(16), 7000)):
         child = subprocess.Popen([findings.program, "encode"], stdin=subprocess.PIPE, stdout=subprocess.PIPE,
                                  stderr=subprocess.PIPE)
 
@@ -494,7 +486,7 @@ def slow_pipes(findings):
         child.stdout.close()
         child.stderr.close()
         findings.note("devices", name, status, time.monotonic() - start)
-        expect(findings, name, (status, out, err), answer(text))
+        expect(findings, name, (status, out, err), written(form))
 
 
 def command_lines(findings):
@@ -524,13 +516,14 @@ def command_lines(findings):
 
 def little_memory(findings):
     """Under a limit on memory the answer is whole, or it is that memory is wanting."""
-    text = balanced(16)
+    text, form = balanced(16)
     for kib in (1 << 20, 1 << 17, 1 << 16, 1 << 15, 1 << 14, 12_000, 10_000, 9_000, 8_000):
         limit = lambda: resource.setrlimit(resource.RLIMIT_AS, (kib * 1024, kib * 1024))
-        for name, given in (("much", text), ("little", b"1 + 2"), ("refused", b"(" * 400_000)):
+        for name, given, wanted in (("much", text, written(form)), ("little", b"1 + 2", TEXTS[0][1]),
+                                    ("refused", b"(" * 400_000, refused(b"nested deeper than 500"))):
             name = f"{kib} KiB of memory, {name}"
             ran = run(findings, "little memory", name, ["encode"], limit, input=given)
-            expect(findings, name, ran, answer(given), (MEMORY, b"", MEMORY_LINE))
+            expect(findings, name, ran, wanted, (MEMORY, b"", MEMORY_LINE))
 
 
 def main():
@@ -543,6 +536,8 @@ def main():
     findings = Findings(os.path.abspath(options.program))
     print(f"program {findings.program}, seed {options.seed}, rounds {options.rounds}", flush=True)
     start = time.monotonic()
+    sys.setrecursionlimit(100_000)
+    worked_texts(findings)
     short_texts(findings)
     random_texts(findings, random.Random(options.seed), options.rounds)
     worked_bytes(findings)

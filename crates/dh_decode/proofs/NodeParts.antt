@@ -1,5 +1,5 @@
 -- Nodes with parts, as they are made.
-use Rattle.std.proofs.Common.{◌≡◌, ℕ, suc, ◌+◌, ◌^◌, ◌<◌, ◌≤◌, max, List, [], ◌∷◌, ◌++◌, map, length, Some, None, refl, sym, ◌∙◌, ap, arith}
+use Rattle.std.proofs.Common.{◌≡◌, ℕ, suc, ◌+◌, ◌^◌, ◌<◌, ◌≤◌, max, List, [], ◌∷◌, ◌++◌, map, length, Some, None, Result, Ok, Err, IfOk, refl, sym, ◌∙◌, ap, arith}
 use Rattle.dh_syntax.proofs.Bridge.{term-Node, row_of-nil}
 use Rattle.dh_syntax.proofs.Rows.{row_of-one, row_of-two, row_of-three, row_of-push, +++_assoc, +++-end}
 use Rattle.dh_syntax.specs.Expressions.Bridge.{term, row_of}
@@ -12,6 +12,18 @@ use Rattle.dh_syntax.specs.declared.expressions.Op.{Op}
 use Rattle.dh_decode.specs.Inside.Views.{part_of}
 use Rattle.dh_decode.specs.declared.parts.Part.{Part}
 use Rattle.dh_binary.specs.Stubs.{Kept, kept, stubs, row, deepest, row_with, deepest_with}
+
+-- what was made is also what that equals
+pub made_as : {E : Type 0} (r : Result Part E) (p q : Kept) → IfOk r (λ x. part_of x ≡ p) → p ≡ q → IfOk r (λ x. part_of x ≡ q)
+made_as (Ok x) p q h e = h ∙ e
+made_as (Err x) p q h e = tt
+
+abbrev nesting_so : ℕ → Term → Kept
+nesting_so n e = record { expression = e; nests = n }
+
+-- the same of an expression that nests so deep
+pub made_of : {E : Type 0} (r : Result Part E) (n : ℕ) (e f : Term) → IfOk r (λ x. part_of x ≡ record { expression = e; nests = n }) → e ≡ f → IfOk r (λ x. part_of x ≡ record { expression = f; nests = n })
+made_of r n e f h g = made_as r (nesting_so n e) (nesting_so n f) h (ap (nesting_so n) g)
 
 pub no_part : (op : Op) (kids : List Kid) → kids ≡ [] → term (expr.Node op kids) ≡ tree.Node op end
 no_part op kids e = term-Node op kids ∙ ap (λ ks. tree.Node op (row_of ks)) e ∙ ap (tree.Node op) row_of-nil
@@ -40,14 +52,14 @@ kept_under op ps x q e n f g = ap (λ t. kept t n) f ∙ ap (kept (tree.Node op 
 pub all_first : (kids : List Kid) (ps qs : List Part) → kids ≡ [] → qs ≡ ps → row_of kids +++ row (map part_of qs) ≡ row (map part_of ps)
 all_first kids ps qs e f = ap (λ ks. row_of ks +++ row (map part_of qs)) e ∙ ap (λ r. r +++ row (map part_of qs)) row_of-nil ∙ ap (λ qs. row (map part_of qs)) f
 
-pub all_next : (kids more : List Kid) (k : Kid) (p : Part) (ps qs : List Part) → k ≡ record { binder = None; body = p.expression } → more ≡ kids ++ k ∷ [] → ps ≡ p ∷ qs →
+pub all_next : (kids more : List Kid) (k : Kid) (p : Part) (ps qs : List Part) → k ≡ record { binder = None; body = p.held.value.expression } → more ≡ kids ++ k ∷ [] → ps ≡ p ∷ qs →
     row_of more +++ row (map part_of qs) ≡ row_of kids +++ row (map part_of ps)
 all_next kids more k p ps qs h e f =
     let r = row (map part_of qs) in
     ap (λ ks. row_of ks +++ r) e ∙ ap (λ s. s +++ r) (row_of-push kids k) ∙ +++_assoc (row_of kids) (kid k.binder (term k.body) end) r
     ∙ ap (λ k. row_of kids +++ kid k.binder (term k.body) r) h ∙ ap (λ ps. row_of kids +++ row (map part_of ps)) (sym f)
 
-pub all_nests : (n m : ℕ) (p : Part) (ps qs : List Part) → m ≡ max n (p.nests + 1) → ps ≡ p ∷ qs → max m (deepest (map part_of qs)) ≡ max n (deepest (map part_of ps))
+pub all_nests : (n m : ℕ) (p : Part) (ps qs : List Part) → m ≡ max n (p.held.value.nests + 1) → ps ≡ p ∷ qs → max m (deepest (map part_of qs)) ≡ max n (deepest (map part_of ps))
 all_nests n m p ps qs e f = let g = ap (λ ps. deepest (map part_of ps)) f in omega arith
 
 pub all_last : (op : Op) (kids : List Kid) (n : ℕ) (ps qs : List Part) → qs ≡ [] → row_of kids +++ row (map part_of qs) ≡ row (map part_of ps) → max n (deepest (map part_of qs)) ≡ deepest (map part_of ps) →

@@ -1,5 +1,6 @@
 -- Words that only private clauses and proofs use.
 pub mod Entries
+pub mod Forms
 pub mod Names
 pub mod Rows
 pub mod Spelling

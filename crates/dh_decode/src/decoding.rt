@@ -15,6 +15,7 @@ ghost use Rattle.dh_decode.specs.Inside.States.{state_of, outcome_of};
 ghost use Rattle.dh_decode.specs.Inside.Steps.{Decides, IsReached};
 ghost use Rattle.dh_decode.specs.Inside.Views.{value_of};
 
+use crate::parts::Held;
 use crate::places::Value;
 use crate::reading::Reader;
 use crate::stops::Stop;
@@ -43,9 +44,16 @@ fn finish(bytes: &[u8], at: usize, value: Value<'_>) -> Result<Expr, DecodeFault
     ensures err { IfErr result (λ f. f ≢ Memory → finish_kept bytes.now (drop at bytes.now) (value_of value.entry) ≡ Err f) }
 {
     match value {
-        Value::Holds(_) if at < bytes.len() => Err(DecodeFault::Rest(at as u32)),
-        Value::Holds(part) if part.nests > MOST_NESTING => Err(DecodeFault::TooNested),
-        Value::Holds(part) => Ok(part.expression),
+        Value::Holds(part) => {
+            let Held { expression, nests } = part.into_held();
+            if at < bytes.len() {
+                return Err(DecodeFault::Rest(at as u32));
+            }
+            if nests > MOST_NESTING {
+                return Err(DecodeFault::TooNested);
+            }
+            Ok(expression)
+        }
         _ => Err(DecodeFault::Memory),
     }
 }

@@ -1,5 +1,5 @@
 //! Labels with what stands behind them, in their order, and what they make.
-ghost use Rattle.std.specs.Prelude.{◌≡◌, IfOk, None, option_map, map, not};
+ghost use Rattle.std.specs.Prelude.{◌≡◌, IfOk, IsTrue, None, false, option_map, map, not};
 ghost use Rattle.std.specs.BTreeMap.{keys};
 ghost use Rattle.std.specs.List.Sorted.{IsStrictlySortedBy};
 ghost use Rattle.dh_syntax.specs.Bytes.BinaryLeaves.{inserted};
@@ -14,6 +14,27 @@ use crate::parts::Part;
 use crate::places::{Entries, Names, RowKind};
 use dh_syntax::{Alt, Alts, Label, Labels, Many, Op};
 use std::alloc::{AllocError, Global};
+use std::collections::BTreeMap;
+
+/// Whether a label comes behind all labels of a map: most come in their order.
+fn comes_last<V>(labels: &BTreeMap<&str, V>, name: &str) -> bool
+    ensures { IsTrue result → has_label labels.now.entries name.now ≡ false }
+{
+    match labels.last_key_value() {
+        Some((last, _)) => *last < name,
+        None => false,
+    }
+}
+
+/// Whether a map has a label.
+fn contains<V>(labels: &BTreeMap<&str, V>, name: &str) -> bool
+    ensures { result ≡ has_label labels.now.entries name.now }
+{
+    if comes_last(labels, name) {
+        return false;
+    }
+    labels.contains_key(name)
+}
 
 /// Whether labels have one.
 pub fn has_name(names: &Names<'_>, name: &str) -> bool
@@ -22,7 +43,7 @@ pub fn has_name(names: &Names<'_>, name: &str) -> bool
 {
     // The clause of `len` says that the labels ascend.
     let _count = names.len();
-    names.contains_key(name)
+    contains(names, name)
 }
 
 /// Whether entries have a label.
@@ -33,7 +54,7 @@ pub fn has_entry(entries: &Entries<'_>, name: &str) -> bool
 {
     // The clause of `len` says that the labels ascend.
     let _count = entries.len();
-    entries.contains_key(name)
+    contains(entries, name)
 }
 
 /// The labels with one more, if they have not got it.
@@ -106,6 +127,7 @@ fn alternatives(alloc: Global, entries: Entries<'_>) -> Result<(Alts, Many<Part>
 }
 
 /// What the entries of a map make.
+#[inline(never)]
 pub fn row_made(alloc: Global, kind: RowKind, entries: Entries<'_>) -> Result<Part, AllocError>
     ensures { IfOk result (λ p. part_of p ≡ machine.row_made stubs (kind_of kind) (entries_of entries.entry.entries)) }
 {
@@ -126,6 +148,7 @@ pub fn row_made(alloc: Global, kind: RowKind, entries: Entries<'_>) -> Result<Pa
 }
 
 /// Labels in their order.
+#[inline(never)]
 pub fn labels_in(alloc: Global, names: Names<'_>) -> Result<Labels, AllocError>
     ensures { IfOk result (λ r. r ≡ names_of names.entry.entries) }
 {

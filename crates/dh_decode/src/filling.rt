@@ -2,16 +2,20 @@
 ghost use Rattle.std.specs.Prelude.{◌≡◌, IfOk, option_map};
 ghost use Rattle.dh_binary.specs.Machine as machine;
 ghost use Rattle.dh_binary.specs.Stubs.{stubs};
-ghost use Rattle.dh_decode.specs.Inside.Views.{part_of, place_of, value_of, entries_of};
+ghost use Rattle.dh_decode.specs.Inside.Forms.{op_of};
+ghost use Rattle.dh_decode.specs.Inside.Views.{part_of, digest_of, place_of, value_of, entries_of};
 
 use crate::entries::{put_entry, put_name, row_made};
 use crate::imports::{environment_part, located, url_part};
 use crate::lets::lets_made;
-use crate::nodes::{applied, bare, binding, emptied, one, two, variable};
+use crate::nodes::{
+    applied, binding, emptied, field_of, integer_part, natural_part, typed_fields_of, updated,
+    variable,
+};
 use crate::parts::Part;
-use crate::places::{Binding, Entries, Names, Place, Start, Value};
+use crate::places::{Binding, Entries, Form, Names, Place, Start, Value};
 use crate::rows::row_at;
-use dh_syntax::{BinOp, Digest, Label, Labels, Many, Mode, Op, Piece};
+use dh_syntax::{BinOp, Digest, Label, Labels, Many, Mode, Piece};
 use std::alloc::{AllocError, Global};
 
 /// An application behind one more part.
@@ -29,20 +33,21 @@ fn applying<'a>(alloc: Global, function: Option<Part>, part: Part) -> Result<Pla
 }
 
 /// A function, or a type of functions, behind its domain or its body.
+#[inline(never)]
 fn quantifying<'a>(
     alloc: Global,
-    op: Op,
+    form: Form,
     name: &'a str,
     domain: Option<Part>,
     part: Part,
 ) -> Result<Place<'a>, AllocError>
     ensures { IfOk result (λ p.
-        place_of p ≡ machine.fill stubs (machine.quantify op name.now (option_map part_of domain)) (machine.holds (part_of part))) }
+        place_of p ≡ machine.fill stubs (machine.quantify (op_of form) name.now (option_map part_of domain)) (machine.holds (part_of part))) }
 {
     match domain {
-        None => Ok(Place::Quantify(op, name, Some(part))),
+        None => Ok(Place::Quantify(form, name, Some(part))),
         Some(domain) => {
-            let made = binding(alloc, op, domain, name, part)?;
+            let made = binding(alloc, form.op(), domain, name, part)?;
             Ok(Place::Finished(made))
         }
     }
@@ -54,7 +59,7 @@ impl<'a> Place<'a> {
         ensures { IfOk result (λ p. place_of p ≡ machine.fill stubs (place_of self.entry) machine.nothing) }
     {
         match self {
-            Place::Skipping(op) => Ok(Place::Operands(op, Many::new(alloc))),
+            Place::Skipping(form) => Ok(Place::Operands(form, Many::new(alloc))),
             Place::Headers(start, secure) => Ok(Place::Hosting(start, secure)),
             Place::LetType(bindings, name) => Ok(Place::LetValue(bindings, name, None)),
             Place::Value(nulls, entries, name) => {
@@ -69,8 +74,8 @@ impl<'a> Place<'a> {
         ensures { IfOk result (λ p. place_of p ≡ machine.fill stubs (place_of self.entry) (machine.counted n)) }
     {
         match self {
-            Place::Numeral => Ok(Place::Finished(bare(alloc, Op::Nat(n)))),
-            Place::Locating(start) => Ok(located(alloc, start, n)),
+            Place::Numeral => Ok(Place::Finished(natural_part(alloc, n)?)),
+            Place::Locating(start) => Ok(located(alloc, start, n)?),
             other => Ok(other),
         }
     }
@@ -86,12 +91,12 @@ impl<'a> Place<'a> {
     }
 
     /// The place behind an integer.
-    fn behind_integer(self, alloc: Global, z: i128) -> Place<'a>
-        ensures { place_of result ≡ machine.fill stubs (place_of self.entry) (machine.signed z) }
+    fn behind_integer(self, alloc: Global, z: i128) -> Result<Place<'a>, AllocError>
+        ensures { IfOk result (λ p. place_of p ≡ machine.fill stubs (place_of self.entry) (machine.signed z)) }
     {
         match self {
-            Place::SignedNumeral => Place::Finished(bare(alloc, Op::Int(z))),
-            other => other,
+            Place::SignedNumeral => Ok(Place::Finished(integer_part(alloc, z)?)),
+            other => Ok(other),
         }
     }
 
@@ -113,14 +118,14 @@ impl<'a> Place<'a> {
         ensures { place_of result ≡ machine.fill stubs (place_of self.entry) (machine.by operator) }
     {
         match self {
-            Place::Operating => Place::Operands(Op::Bin(operator), Many::new(alloc)),
+            Place::Operating => Place::Operands(Form::By(operator), Many::new(alloc)),
             other => other,
         }
     }
 
     /// The place behind the digest of an import.
-    fn behind_digest(self, digest: Option<Digest>) -> Place<'a>
-        ensures { place_of result ≡ machine.fill stubs (place_of self.entry) (machine.hashed digest) }
+    fn behind_digest(self, digest: Option<Box<Digest>>) -> Place<'a>
+        ensures { place_of result ≡ machine.fill stubs (place_of self.entry) (machine.hashed (digest_of digest)) }
     {
         match self {
             Place::Importing => Place::Moding(digest),
@@ -179,11 +184,8 @@ impl<'a> Place<'a> {
     {
         match self {
             Place::First => Ok(Place::Indexing(text)),
-            Place::Binder(op) => Ok(Place::Quantify(op, text, None)),
-            Place::Selected(part) => {
-                let label = Label::new(alloc, text)?;
-                Ok(Place::Finished(one(alloc, Op::Field(label), part)?))
-            }
+            Place::Binder(form) => Ok(Place::Quantify(form, text, None)),
+            Place::Selected(part) => Ok(Place::Finished(field_of(alloc, part, text)?)),
             Place::Labelled(part, names) => Ok(Place::Labelled(part, put_name(names, text)?)),
             Place::Projected(part) => {
                 Ok(Place::Labelled(part, put_name(Names::new(alloc), text)?))
@@ -222,17 +224,15 @@ impl<'a> Place<'a> {
     {
         match self {
             Place::Applying(function) => applying(alloc, function, part),
-            Place::Operands(op, mut parts) => {
+            Place::Operands(form, mut parts) => {
                 parts.push(part)?;
-                Ok(Place::Operands(op, parts))
+                Ok(Place::Operands(form, parts))
             }
-            Place::Quantify(op, name, domain) => quantifying(alloc, op, name, domain, part),
+            Place::Quantify(form, name, domain) => quantifying(alloc, form, name, domain, part),
             Place::Emptied => Ok(Place::Finished(emptied(alloc, part)?)),
             Place::Selecting => Ok(Place::Selected(part)),
             Place::Projecting => Ok(Place::Projected(part)),
-            Place::Projected(record) => {
-                Ok(Place::Finished(two(alloc, Op::ProjectType, record, part)?))
-            }
+            Place::Projected(record) => Ok(Place::Finished(typed_fields_of(alloc, record, part)?)),
             Place::Between(pieces, mut parts) => {
                 parts.push(part)?;
                 Ok(Place::Piece(pieces, parts))
@@ -249,7 +249,7 @@ impl<'a> Place<'a> {
             }
             Place::Updating => Ok(Place::UpdatePath(part)),
             Place::UpdateValue(record, labels) => {
-                Ok(Place::Finished(two(alloc, Op::With(labels), record, part)?))
+                Ok(Place::Finished(updated(alloc, record, labels, part)?))
             }
             Place::Boxing => Ok(Place::Finished(part)),
             Place::Value(nulls, entries, name) => {
@@ -269,7 +269,7 @@ impl<'a> Place<'a> {
             Value::Called(text) => self.behind_text(alloc, text),
             Value::Counted(n) => self.behind_number(alloc, n),
             Value::Indexed(n) => self.behind_index(alloc, n),
-            Value::Signed(z) => Ok(self.behind_integer(alloc, z)),
+            Value::Signed(z) => self.behind_integer(alloc, z),
             Value::Coded(code, items) => Ok(self.behind_code(alloc, code, items)),
             Value::By(operator) => Ok(self.behind_operator(alloc, operator)),
             Value::Hashed(digest) => Ok(self.behind_digest(digest)),

@@ -26,6 +26,7 @@ fn let_made(alloc: Global, bound: Binding<'_>, body: Part) -> Result<Part, Alloc
 }
 
 /// The lets of these names, the first one outermost.
+#[inline(never)]
 pub fn lets_made(alloc: Global, bindings: Many<Binding<'_>>, body: Part) -> Result<Part, AllocError>
     ensures { IfOk result (λ p. part_of p ≡ machine.lets_made stubs (map binding_of bindings.entry) (part_of body)) }
 {

@@ -1,7 +1,9 @@
 //! What stands open while bytes are read, and what each item gave.
+ghost use Rattle.std.specs.Prelude.{◌≡◌};
+ghost use Rattle.dh_decode.specs.Inside.Forms.{op_of};
 
 use crate::parts::Part;
-use dh_syntax::{BinOp, Digest, Labels, Loc, Many, Mode, Op, Piece};
+use dh_syntax::{BinOp, Digest, Labels, Many, Mode, Op, Piece};
 use std::collections::BTreeMap;
 
 /// Labels with what stands behind them, in their order, none twice.
@@ -23,7 +25,7 @@ pub enum Value<'a> {
     /// The first number of an array, and how many items come after it.
     Coded(u64, u128),
     By(BinOp),
-    Hashed(Option<Digest>),
+    Hashed(Option<Box<Digest>>),
     Taken(Mode),
     Queried(Option<&'a str>),
     Path(Labels),
@@ -39,10 +41,47 @@ pub struct Binding<'a> {
 }
 
 /// What stands before the scheme of an import.
-#[derive(Clone, Copy, Debug)]
+#[derive(Drop)]
 pub struct Start {
-    pub digest: Option<Digest>,
+    pub digest: Option<Box<Digest>>,
     pub mode: Mode,
+}
+
+/// An operator without text or numbers in it.
+#[derive(Clone, Copy, Debug, PartialEq, Eq)]
+pub enum Form {
+    Lam,
+    Pi,
+    If,
+    By(BinOp),
+    EmptyList,
+    List,
+    Some,
+    Merge(bool),
+    Assert,
+    Annot,
+    ToMap(bool),
+}
+
+impl Form {
+    /// The operator.
+    pub fn op(self) -> Op
+        ensures { result ≡ op_of self }
+    {
+        match self {
+            Form::Lam => Op::Lam,
+            Form::Pi => Op::Pi,
+            Form::If => Op::If,
+            Form::By(operator) => Op::Bin(operator),
+            Form::EmptyList => Op::EmptyList,
+            Form::List => Op::List,
+            Form::Some => Op::Some,
+            Form::Merge(typed) => Op::Merge(typed),
+            Form::Assert => Op::Assert,
+            Form::Annot => Op::Annot,
+            Form::ToMap(typed) => Op::ToMap(typed),
+        }
+    }
 }
 
 /// What the entries of a map make.
@@ -53,7 +92,7 @@ pub enum RowKind {
     Alternatives,
 }
 
-/// An open array or map, with what was made of its items.
+/// An open array or map, with what was made of its items. It is moved at each item, so what is large stands in a box.
 #[derive(Drop)]
 pub enum Place<'a> {
     /// `[ ]`
@@ -63,17 +102,17 @@ pub enum Place<'a> {
     /// `[0 ]`, `[0, f, a.. ]`
     Applying(Option<Part>),
     /// Expressions only.
-    Operands(Op, Many<Part>),
+    Operands(Form, Many<Part>),
     /// `[1 ]`, `[2 ]`
-    Binder(Op),
+    Binder(Form),
     /// `[1, x ]`, `[1, x, A ]`
-    Quantify(Op, &'a str, Option<Part>),
+    Quantify(Form, &'a str, Option<Part>),
     /// `[3 ]`
     Operating,
     /// `[4 ]` before one item.
     Emptied,
     /// `[4 ]`, `[5 ]` before null.
-    Skipping(Op),
+    Skipping(Form),
     /// `[7 ]`, `[8 ]`, `[11 ]`
     Rowing(RowKind),
     /// `[9 ]`
@@ -97,7 +136,7 @@ pub enum Place<'a> {
     /// `[24 ]`
     Importing,
     /// `[24, digest ]`
-    Moding(Option<Digest>),
+    Moding(Option<Box<Digest>>),
     /// `[24, digest, mode ]`
     Locating(Start),
     /// The components of a path by its scheme.

@@ -43,6 +43,7 @@ impl<'a> Reader<'a> {
     }
 
     /// Waits for an item of a place, with so many behind it.
+    #[inline(always)]
     fn wait(&mut self, place: Place<'a>, left: u128) -> Result<(), Stop>
         ensures ok { IfOk result (λ u.
             state_of self.new.want self.new.frames ≡ machine.reading (machine.want (place_of place.entry) left)
@@ -55,6 +56,7 @@ impl<'a> Reader<'a> {
     }
 
     /// Goes on in a place where so many items are left: `None` where it waits for one, its value where there is none.
+    #[inline(always)]
     fn close(
         &mut self,
         alloc: Global,
@@ -194,7 +196,7 @@ impl<'a> Reader<'a> {
             Want::Null => null(atom),
             Want::Index => index(atom),
             Want::OperatorCode => operator_code(atom),
-            Want::Digest => digest(atom),
+            Want::Digest => digest(alloc, atom),
             Want::Mode => mode(atom),
             Want::Scheme(items) => scheme(items, atom),
             Want::Query => query_item(atom),

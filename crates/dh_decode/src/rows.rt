@@ -2,14 +2,16 @@
 ghost use Rattle.std.specs.Prelude.{◌≡◌, [], option_map};
 ghost use Rattle.dh_binary.specs.Machine as machine;
 ghost use Rattle.dh_binary.specs.Machine.{when, operands};
+ghost use Rattle.dh_decode.specs.Inside.Forms.{op_of};
 ghost use Rattle.dh_decode.specs.Inside.Rows.{row_at, quantified, scheme_fits, lets_fit};
 ghost use Rattle.dh_decode.specs.Inside.Views.{place_of};
 
-use crate::places::{Place, RowKind};
-use dh_syntax::{Many, Op};
+use crate::places::{Form, Place, RowKind};
+use dh_syntax::Many;
 use std::alloc::Global;
 
 /// The place, if the row has so many items.
+#[inline(always)]
 pub fn when(fits: bool, place: Place<'_>) -> Option<Place<'_>>
     ensures { option_map place_of result ≡ when fits (place_of place.entry) }
 {
@@ -17,23 +19,25 @@ pub fn when(fits: bool, place: Place<'_>) -> Option<Place<'_>>
 }
 
 /// A node of expressions only.
-fn operands<'a>(alloc: Global, fits: bool, op: Op) -> Option<Place<'a>>
-    ensures { option_map place_of result ≡ when fits (operands op []) }
+#[inline(always)]
+fn operands<'a>(alloc: Global, fits: bool, form: Form) -> Option<Place<'a>>
+    ensures { option_map place_of result ≡ when fits (operands (op_of form) []) }
 {
     if fits {
-        Some(Place::Operands(op, Many::new(alloc)))
+        Some(Place::Operands(form, Many::new(alloc)))
     } else {
         None
     }
 }
 
 /// A function or the type of functions: its name is not written where that is `_`.
-fn quantified<'a>(op: Op, items: u128) -> Option<Place<'a>>
-    ensures { option_map place_of result ≡ quantified op items }
+#[inline(always)]
+fn quantified<'a>(form: Form, items: u128) -> Option<Place<'a>>
+    ensures { option_map place_of result ≡ quantified (op_of form) items }
 {
     match items {
-        2 => Some(Place::Quantify(op, "_", None)),
-        3 => Some(Place::Binder(op)),
+        2 => Some(Place::Quantify(form, "_", None)),
+        3 => Some(Place::Binder(form)),
         _ => None,
     }
 }
@@ -51,33 +55,33 @@ fn row_of<'a>(alloc: Global, code: u64, items: u128) -> Option<Place<'a>>
 {
     match code {
         0 => when(items >= 2, Place::Applying(None)),
-        1 => quantified(Op::Lam, items),
-        2 => quantified(Op::Pi, items),
+        1 => quantified(Form::Lam, items),
+        2 => quantified(Form::Pi, items),
         3 => when(items == 3, Place::Operating),
         4 if items == 1 => Some(Place::Emptied),
-        4 => when(items >= 2, Place::Skipping(Op::List)),
-        5 => when(items == 2, Place::Skipping(Op::Some)),
-        6 if items == 2 => operands(alloc, true, Op::Merge(false)),
-        6 => operands(alloc, items == 3, Op::Merge(true)),
+        4 => when(items >= 2, Place::Skipping(Form::List)),
+        5 => when(items == 2, Place::Skipping(Form::Some)),
+        6 if items == 2 => operands(alloc, true, Form::Merge(false)),
+        6 => operands(alloc, items == 3, Form::Merge(true)),
         7 => when(items == 1, Place::Rowing(RowKind::Types)),
         8 => when(items == 1, Place::Rowing(RowKind::Values)),
         9 => when(items == 2, Place::Selecting),
         10 => when(items >= 1, Place::Projecting),
         11 => when(items == 1, Place::Rowing(RowKind::Alternatives)),
-        14 => operands(alloc, items == 3, Op::If),
+        14 => operands(alloc, items == 3, Form::If),
         15 => when(items == 1, Place::Numeral),
         16 => when(items == 1, Place::SignedNumeral),
         18 => when(
             items % 2 == 1,
             Place::Piece(Many::new(alloc), Many::new(alloc)),
         ),
-        19 => operands(alloc, items == 1, Op::Assert),
+        19 => operands(alloc, items == 1, Form::Assert),
         24 => when(items >= 3, Place::Importing),
         25 => when(lets_fit(items), Place::LetName(Many::new(alloc))),
-        26 => operands(alloc, items == 2, Op::Annot),
-        27 if items == 1 => operands(alloc, true, Op::ToMap(false)),
-        27 => operands(alloc, items == 2, Op::ToMap(true)),
-        28 => operands(alloc, items == 1, Op::EmptyList),
+        26 => operands(alloc, items == 2, Form::Annot),
+        27 if items == 1 => operands(alloc, true, Form::ToMap(false)),
+        27 => operands(alloc, items == 2, Form::ToMap(true)),
+        28 => operands(alloc, items == 1, Form::EmptyList),
         29 => when(items == 3, Place::Updating),
         _ => None,
     }

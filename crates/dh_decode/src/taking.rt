@@ -5,14 +5,13 @@ ghost use Rattle.dh_binary.specs.Stubs.{stubs};
 ghost use Rattle.dh_decode.specs.Inside.States.{test_of};
 ghost use Rattle.dh_decode.specs.Inside.Takings.{Takes, builtin_value};
 
-use crate::nodes::{bare, variable};
+use crate::nodes::{bool_part, builtin_part, variable};
 use crate::numbers::{bignum, hash_of, mode_by, natural, operator};
 use crate::places::{Test, Value};
 use crate::rows::{row_at, scheme_fits};
 use crate::stops::Stop;
 use crate::texts::{builtin_of, query, spelled};
 use dh_cbor::Atom;
-use dh_syntax::Op;
 use std::alloc::Global;
 
 /// The greatest index of a variable.
@@ -37,7 +36,10 @@ fn builtin<'a>(alloc: Global, name: &[u8]) -> Result<Value<'a>, Stop>
     ensures { Takes (λ b. builtin_value name.now) result }
 {
     match builtin_of(name) {
-        Some(builtin) => Ok(Value::Holds(bare(alloc, Op::Builtin(builtin)))),
+        Some(builtin) => match builtin_part(alloc, builtin) {
+            Ok(part) => Ok(Value::Holds(part)),
+            Err(_) => Err(Stop::Memory),
+        },
         None => Err(Stop::Misfit),
     }
 }
@@ -52,8 +54,8 @@ pub fn term<'a>(alloc: Global, atom: Atom<'a>) -> Result<Value<'a>, Stop>
         }
         Atom::Unsigned(_) => Err(Stop::Wide),
         Atom::Characters(text) => builtin(alloc, text),
-        Atom::Simple(20) => Ok(Value::Holds(bare(alloc, Op::Bool(false)))),
-        Atom::Simple(21) => Ok(Value::Holds(bare(alloc, Op::Bool(true)))),
+        Atom::Simple(20) => Ok(Value::Holds(bool_part(alloc, false)?)),
+        Atom::Simple(21) => Ok(Value::Holds(bool_part(alloc, true)?)),
         Atom::Simple(_) => Err(Stop::Misfit),
         Atom::Negative(_) | Atom::Octets(_) => Err(Stop::Misfit),
     }
@@ -124,14 +126,14 @@ pub fn operator_code<'a>(atom: Atom<'a>) -> Result<Value<'a>, Stop>
 }
 
 /// The digest of an import, or null.
-pub fn digest<'a>(atom: Atom<'a>) -> Result<Value<'a>, Stop>
+pub fn digest<'a>(alloc: Global, atom: Atom<'a>) -> Result<Value<'a>, Stop>
     ensures { Takes (λ b. machine.atom_as stubs b machine.digest (the_atom atom.entry)) result }
 {
     match atom {
         Atom::Simple(22) => Ok(Value::Hashed(None)),
         Atom::Simple(_) => Err(Stop::Misfit),
         Atom::Octets(bytes) => match hash_of(bytes) {
-            Some(digest) => Ok(Value::Hashed(Some(digest))),
+            Some(digest) => Ok(Value::Hashed(Some(Box::new(alloc, digest)?))),
             None => Err(Stop::Misfit),
         },
         Atom::Unsigned(_) | Atom::Negative(_) => Err(Stop::Misfit),

@@ -6,6 +6,7 @@ pub mod Facts
 pub mod Graph
 pub mod Grow
 pub mod Keep
+pub mod Kept
 pub mod Laws
 pub mod Plans
 pub mod Progress

@@ -21,8 +21,8 @@ use Rattle.dh_syntax.specs.Imports.Records as found
 use Rattle.dh_syntax.specs.Imports.Records.{Record, Noted, Seen, text_at, look_at, limit_at, IsParsed, IsGood, IsLimitOf}
 use Rattle.dh_syntax.specs.Imports.Replay.{has_too_many}
 use Rattle.dh_syntax.specs.Imports.Resolver.{Has, resolve, Resolves, ResolvesRoot, unfetched}
-use Rattle.dh_syntax.specs.Imports.Keeps.{Visited}
-use Rattle.dh_syntax.specs.Imports.Walk.{walk, Walked, Ready, Turns, Needs}
+use Rattle.dh_syntax.specs.Imports.Keeps.{Visited, AreKeeps}
+use Rattle.dh_syntax.specs.Imports.Walk.{Ask, walk, Walked, Ready, Turns, Needs}
 
 -- ---- the order of keys
 
@@ -154,6 +154,12 @@ VisitsAreResolved =
     × (outcome_of (after_all root es) k ≡ resolve (after_all root es).recorded n [] k))
     × ((k : Key) → Visited (after_all root es).recorded (resolve (after_all root es).recorded n []) root k
     → Visited (after_all root es).recorded (outcome_of (after_all root es)) root k)
+
+-- A run keeps one list of cache entries.
+abbrev pub OneListOfKeeps : Type 0
+OneListOfKeeps =
+    (r : Record) (ask : Ask) (root : Term) (kept others : List (Digest × List ℕ))
+    → AreKeeps r ask root kept → AreKeeps r ask root others → kept ≡ others
 
 -- ---- what a record says is true
 

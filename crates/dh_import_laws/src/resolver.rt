@@ -1,5 +1,5 @@
 //! Laws of the resolver of imports.
-ghost use Rattle.dh_import_laws.specs.ImportLaws.{OneOutcome, MoreToSpend, MoreRecorded, CodeComesOf, CodeComes, OneOutcomeOfCode};
+ghost use Rattle.dh_import_laws.specs.ImportLaws.{OneOutcome, MoreToSpend, MoreRecorded, CodeComesOf, CodeComes, OneOutcomeOfCode, OneListOfKeeps};
 
 /// The resolver gives a key one outcome.
 pub fn one_outcome()
@@ -22,4 +22,9 @@ pub fn code_comes_of()
     ensures gives { CodeComesOf }
     ensures given { CodeComes }
     ensures one { OneOutcomeOfCode }
+{}
+
+/// A run whose root is ready keeps one list of cache entries.
+pub fn one_list_of_keeps()
+    ensures { OneListOfKeeps }
 {}

@@ -7,13 +7,12 @@ use Rattle.dh_operands.specs.declared.parts.Part.{Part}
 use Rattle.dh_operands.specs.Inside.Nodes.{Gathered, and_parts}
 use Rattle.dh_operands.specs.Operands.{note_of}
 
-module _ {N : Type 0} where
-  abbrev pub rows_of : List (Name × Option (Part N)) → List (Name × Option (stubs.Part))
-  rows_of as' = map (λ a. (a.0, note_of a.1)) as'
+abbrev pub rows_of : List (Name × Option Part) → List (Name × Option (stubs.Part))
+rows_of as' = map (λ a. (a.0, note_of a.1)) as'
 
-  pub typed-is_some : (a : Option (Part N)) → is_some a ≡ is_typed (note_of a)
-  typed-is_some None = refl
-  typed-is_some (Some p) = refl
+pub typed-is_some : (a : Option Part) → is_some a ≡ is_typed (note_of a)
+typed-is_some None = refl
+typed-is_some (Some p) = refl
 
 pub and_note : (g : Gathered) (a : Option (stubs.Part)) (ps : Parts) → and_parts (and_parts g (and_typed a [])) ps ≡ and_parts g (and_typed a ps)
 and_note g None ps = refl

@@ -1,5 +1,3 @@
 pub mod Inside
 pub mod Operands
-pub mod Projections
 pub mod Rows
-pub mod Words

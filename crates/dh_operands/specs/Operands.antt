@@ -11,28 +11,26 @@ use Rattle.dh_operands.specs.declared.operands.Operand.{Operand}
 use Rattle.dh_operands.specs.declared.parts.Part.{Part}
 
 -- an expression and how deep it nests
-abbrev pub part_of : {N : Type 0} → Part N → stubs.Part
+abbrev pub part_of : Part → stubs.Part
 part_of p = record { expression = term p.expression; nests = p.nests }
 
 -- an annotation, where there is one
-abbrev pub note_of : {N : Type 0} → Option (Part N) → Option (stubs.Part)
+abbrev pub note_of : Option Part → Option (stubs.Part)
 note_of a = option_map part_of a
 
 -- what stands between the pieces of a text
-abbrev pub chunks_of : {N : Type 0} → Chunks N → KeptTexts
+abbrev pub chunks_of : Chunks → KeptTexts
 chunks_of cs = record { pieces = cs.pieces; interpolations = map part_of cs.interpolations }
 
-abbrev pub items_of : {N : Type 0} → Items N → List (stubs.Part)
+abbrev pub items_of : Items → List (stubs.Part)
 items_of is = map part_of is.parts
 
--- notes, places and notes of parts
-module _ {N S K : Type 0} where
-  -- a part and how tightly it binds
-  abbrev pub operand_of : Operand N S K → Kept
-  operand_of x = record { part = part_of x.part; level = x.level }
+-- a part and how tightly it binds
+abbrev pub operand_of : Operand → Kept
+operand_of x = record { part = part_of x.part; level = x.level }
 
-  abbrev pub binding_of : Binding N S K → KeptBinding
-  binding_of b = record { name = b.name; annotation = note_of b.annotation; value = part_of b.value }
+abbrev pub binding_of : Binding → KeptBinding
+binding_of b = record { name = b.name; annotation = note_of b.annotation; value = part_of b.value }
 
-  abbrev pub lets_of : Lets N S K → List KeptBinding
-  lets_of ls = map binding_of ls.bindings
+abbrev pub lets_of : Lets → List KeptBinding
+lets_of ls = map binding_of ls.bindings

@@ -4,33 +4,31 @@ ghost use Rattle.dh_grammar.specs.Stubs.{stubs};
 ghost use Rattle.dh_grammar.specs.Making.{so_far};
 ghost use Rattle.dh_operands.specs.Operands.{operand_of, note_of};
 ghost use Rattle.dh_operands.specs.Rows.{alternatives_of, alternative_rows};
-ghost use Rattle.dh_operands.specs.Words.{key_of};
+ghost use Rattle.dh_making.specs.Words.{key_of};
 ghost use Rattle.dh_syntax.specs.Text.Derivation.{key_label};
 ghost use Rattle.dh_syntax.specs.Text.Derived.{among};
 
 use crate::gathering::Gathering;
-use crate::labels::ByLabel;
-use crate::notes::Notes;
 use crate::operands::Operand;
 use crate::parts::Part;
-use crate::words::EntryKey;
+use dh_making::{ByLabel, EntryKey};
 use dh_syntax::{Alt, Many, Op};
 use std::alloc::{AllocError, Global};
 
 /// The alternatives of a union, each with its type, where it has one, in the order of their labels.
 #[derive(Drop)]
-pub struct Alternatives<N> {
-    by_label: ByLabel<Option<Part<N>>>,
+pub struct Alternatives {
+    by_label: ByLabel<Option<Part>>,
 }
 
-impl<N: Notes> Alternatives<N> {
+impl Alternatives {
     /// One alternative more beside those that there are. A label that is there already stays as it is.
     pub fn add(
         alloc: Global,
-        so_far: Option<Alternatives<N>>,
+        so_far: Option<Alternatives>,
         key: EntryKey,
-        annotation: Option<Part<N>>,
-    ) -> Result<Alternatives<N>, AllocError>
+        annotation: Option<Part>,
+    ) -> Result<Alternatives, AllocError>
         ensures { IfOk result (λ a.
             alternatives_of a ≡ stubs.add_alternative (option_map alternatives_of so_far) (key_of key) (note_of annotation)) }
     {
@@ -46,8 +44,8 @@ impl<N: Notes> Alternatives<N> {
         self.by_label.contains_key(alloc, key)
     }
 
-    /// The union; `spot` is its stretch from `<` to `>`.
-    pub fn union(self, alloc: Global, spot: N::Spot) -> Result<Operand<N>, AllocError>
+    /// The union.
+    pub fn union(self, alloc: Global) -> Result<Operand, AllocError>
         ensures { IfOk result (λ x. operand_of x ≡ stubs.union false (alternatives_of self) false) }
     {
         let mut alts = Many::new(alloc);
@@ -60,18 +58,14 @@ impl<N: Notes> Alternatives<N> {
             types.push_if(annotation)?;
         }
         Ok(Operand {
-            part: types.finish(alloc, Op::Union(alts), spot),
+            part: types.finish(alloc, Op::Union(alts)),
             level: 17,
-            spot,
         })
     }
 }
 
 /// The alternatives that there are.
-fn rows_so_far<N: Notes>(
-    alloc: Global,
-    alternatives: Option<Alternatives<N>>,
-) -> ByLabel<Option<Part<N>>>
+fn rows_so_far(alloc: Global, alternatives: Option<Alternatives>) -> ByLabel<Option<Part>>
     ensures { alternative_rows result ≡ so_far (option_map alternatives_of alternatives) }
 {
     match alternatives {

@@ -7,75 +7,47 @@ ghost use Rattle.dh_syntax.specs.Expressions.Bridge.{term};
 
 use crate::gathering::Gathering;
 use crate::nodes::two;
-use crate::notes::Notes;
 use crate::operands::Operand;
 use crate::parts::Part;
 use dh_syntax::{Expr, Op};
 use std::alloc::{AllocError, Global};
 
-impl<N: Notes> Operand<N> {
+impl Operand {
     /// `value : annotation`. That of `merge` or `toMap` without brackets is their own.
-    pub fn noting(
-        alloc: Global,
-        value: Operand<N>,
-        annotation: Operand<N>,
-    ) -> Result<Operand<N>, AllocError>
+    pub fn noting(alloc: Global, value: Operand, annotation: Operand) -> Result<Operand, AllocError>
         ensures { IfOk result (λ x. operand_of x ≡ stubs.noting (operand_of value) (operand_of annotation)) }
     {
-        let spot = N::through(value.spot, annotation.spot);
         let part = if value.level == 14 {
-            noted(alloc, value.part, annotation.part, spot)?
+            noted(alloc, value.part, annotation.part)?
         } else {
-            two(alloc, Op::Annot, value.part, None, annotation.part, spot)?
+            two(alloc, Op::Annot, value.part, None, annotation.part)?
         };
-        Ok(Operand {
-            part,
-            level: 0,
-            spot,
-        })
+        Ok(Operand { part, level: 0 })
     }
 }
 
 /// An annotation on a part that is no bracketed `merge` or `toMap`.
-fn noted<N: Notes>(
-    alloc: Global,
-    value: Part<N>,
-    annotation: Part<N>,
-    spot: N::Spot,
-) -> Result<Part<N>, AllocError>
+fn noted(alloc: Global, value: Part, annotation: Part) -> Result<Part, AllocError>
     ensures { IfOk result (λ p. part_of p ≡ note_on (term value.expression) (part_of value) (part_of annotation)) }
 {
-    let Part {
-        expression,
-        nests,
-        notes,
-    } = value;
+    let Part { expression, nests } = value;
     match expression {
         Expr::Node(op, kids) => match with_annotation(&op) {
             Some(annotated) => {
-                let notes = notes.into_kids();
-                let mut parts = Gathering { kids, nests, notes };
+                let mut parts = Gathering { kids, nests };
                 parts.push(None, annotation)?;
-                Ok(parts.finish(alloc, annotated, spot))
+                Ok(parts.finish(alloc, annotated))
             }
             None => {
                 let expression = Expr::Node(op, kids);
-                let value = Part {
-                    expression,
-                    nests,
-                    notes,
-                };
-                two(alloc, Op::Annot, value, None, annotation, spot)
+                let value = Part { expression, nests };
+                two(alloc, Op::Annot, value, None, annotation)
             }
         },
         Expr::Var(label, index) => {
             let expression = Expr::Var(label, index);
-            let value = Part {
-                expression,
-                nests,
-                notes,
-            };
-            two(alloc, Op::Annot, value, None, annotation, spot)
+            let value = Part { expression, nests };
+            two(alloc, Op::Annot, value, None, annotation)
         }
     }
 }

@@ -5,7 +5,6 @@ ghost use Rattle.dh_operands.specs.Operands.{operand_of, chunks_of};
 ghost use Rattle.dh_syntax.specs.Text.Meaning.{piece_of, text_pieces};
 
 use crate::nodes::several;
-use crate::notes::Notes;
 use crate::operands::Operand;
 use crate::parts::Part;
 use dh_literals::unindent;
@@ -14,14 +13,14 @@ use std::alloc::{AllocError, Global};
 
 /// What has been read of a text: the pieces between its interpolations, of which there is one more than of these.
 #[derive(Drop)]
-pub struct Chunks<N> {
+pub struct Chunks {
     pieces: Pieces,
-    interpolations: Many<Part<N>>,
+    interpolations: Many<Part>,
 }
 
-impl<N: Notes> Chunks<N> {
+impl Chunks {
     /// What stands before the first interpolation.
-    pub fn start(alloc: Global, piece: Option<Piece>) -> Result<Chunks<N>, AllocError>
+    pub fn start(alloc: Global, piece: Option<Piece>) -> Result<Chunks, AllocError>
         ensures { IfOk result (λ cs. chunks_of cs ≡ stubs.start piece) }
     {
         let mut pieces = Many::new(alloc);
@@ -36,9 +35,9 @@ impl<N: Notes> Chunks<N> {
     pub fn more(
         self,
         alloc: Global,
-        interpolation: Operand<N>,
+        interpolation: Operand,
         piece: Option<Piece>,
-    ) -> Result<Chunks<N>, AllocError>
+    ) -> Result<Chunks, AllocError>
         ensures { IfOk result (λ cs. chunks_of cs ≡ stubs.more_chunks (chunks_of self) (operand_of interpolation) piece) }
     {
         let Chunks {
@@ -53,13 +52,8 @@ impl<N: Notes> Chunks<N> {
         })
     }
 
-    /// The text; `spot` is its stretch from the opening to the closing.
-    pub fn text(
-        self,
-        alloc: Global,
-        form: TextForm,
-        spot: N::Spot,
-    ) -> Result<Operand<N>, AllocError>
+    /// The text.
+    pub fn text(self, alloc: Global, form: TextForm) -> Result<Operand, AllocError>
         ensures { IfOk result (λ x. operand_of x ≡ stubs.text form (chunks_of self)) }
     {
         let Chunks {
@@ -67,12 +61,8 @@ impl<N: Notes> Chunks<N> {
             interpolations,
         } = self;
         let op = Op::Text(pieces_of(alloc, form, pieces)?);
-        let part = several(alloc, op, interpolations.into_vec(), spot)?;
-        Ok(Operand {
-            part,
-            level: 17,
-            spot,
-        })
+        let part = several(alloc, op, interpolations.into_vec())?;
+        Ok(Operand { part, level: 17 })
     }
 }
 

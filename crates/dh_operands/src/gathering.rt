@@ -8,42 +8,33 @@ ghost use Rattle.dh_syntax.specs.Expressions.Bridge.{term};
 ghost use Rattle.dh_syntax.specs.Expressions.Tree.{Node};
 ghost use Rattle.std.specs.Prelude.{map, option_map, []};
 
-use crate::notes::Notes;
 use crate::parts::Part;
 use dh_syntax::{Expr, Kid, Kids, Label, MOST_NESTING, Op};
 use std::alloc::{AllocError, Global};
 
-/// The parts of a node so far, from left to right, with what is kept of their places, and how deep a node of them
-/// nests.
+/// The parts of a node so far, from left to right, and how deep a node of them nests.
 #[derive(Drop)]
-pub struct Gathering<N: Notes> {
+pub struct Gathering {
     pub kids: Kids,
     pub nests: u32,
-    pub notes: N::Kids,
 }
 
-impl<N: Notes> Gathering<N> {
+impl Gathering {
     /// No parts.
-    pub fn new(alloc: Global) -> Gathering<N>
+    pub fn new(alloc: Global) -> Gathering
         ensures { gathered_of result ≡ nothing }
     {
         Gathering {
             kids: Kids::new(alloc),
             nests: 0,
-            notes: N::kids(alloc),
         }
     }
 
     /// One part more, under the variable that the node binds in it, if it binds one.
-    pub fn push(&mut self, binder: Option<Label>, part: Part<N>) -> Result<(), AllocError>
+    pub fn push(&mut self, binder: Option<Label>, part: Part) -> Result<(), AllocError>
         ensures { OnOk result (gathered_of self.new ≡ and_part (gathered_of self.old) binder (part_of part)) }
     {
-        let Part {
-            expression,
-            nests,
-            notes,
-        } = part;
-        N::push(&mut self.notes, notes)?;
+        let Part { expression, nests } = part;
         self.kids.push(Kid {
             binder,
             body: expression,
@@ -53,7 +44,7 @@ impl<N: Notes> Gathering<N> {
     }
 
     /// The part, where there is one.
-    pub fn push_if(&mut self, part: Option<Part<N>>) -> Result<(), AllocError>
+    pub fn push_if(&mut self, part: Option<Part>) -> Result<(), AllocError>
         ensures { OnOk result (gathered_of self.new ≡ and_parts (gathered_of self.old) (and_typed (option_map part_of part) [])) }
     {
         match part {
@@ -63,7 +54,7 @@ impl<N: Notes> Gathering<N> {
     }
 
     /// Several parts more.
-    pub fn push_all(&mut self, parts: Vec<Part<N>>) -> Result<(), AllocError>
+    pub fn push_all(&mut self, parts: Vec<Part>) -> Result<(), AllocError>
         ensures { OnOk result (gathered_of self.new ≡ and_parts (gathered_of self.old) (unbound (map part_of parts.items))) }
     {
         for part in parts {
@@ -73,48 +64,31 @@ impl<N: Notes> Gathering<N> {
     }
 
     /// The node that has these parts.
-    pub fn finish(self, alloc: Global, op: Op, spot: N::Spot) -> Part<N>
+    pub fn finish(self, alloc: Global, op: Op) -> Part
         ensures { part_of result ≡ stubs.kept (Node op (gathered_of self).parts) (gathered_of self).nests }
     {
-        let Gathering { kids, nests, notes } = self;
-        kept(
-            alloc,
-            Expr::Node(op, kids),
-            nests,
-            N::node(notes, spot),
-            spot,
-        )
+        let Gathering { kids, nests } = self;
+        kept(alloc, Expr::Node(op, kids), nests)
     }
 }
 
 /// The part that an expression is, which nests so deep.
-pub fn kept<N: Notes>(
-    alloc: Global,
-    expression: Expr,
-    nests: u32,
-    notes: N,
-    spot: N::Spot,
-) -> Part<N>
+pub fn kept(alloc: Global, expression: Expr, nests: u32) -> Part
     ensures { part_of result ≡ stubs.kept (term expression) nests }
 {
     if nests <= MOST_NESTING {
-        Part {
-            expression,
-            nests,
-            notes,
-        }
+        Part { expression, nests }
     } else {
-        stub(alloc, spot)
+        stub(alloc)
     }
 }
 
 /// What stands in place of an expression that nests too deep. It takes no memory.
-fn stub<N: Notes>(alloc: Global, spot: N::Spot) -> Part<N>
+fn stub(alloc: Global) -> Part
     ensures { part_of result ≡ stubs.stub }
 {
     Part {
         expression: Expr::Node(Op::Bool(true), Kids::new(alloc)),
         nests: 501,
-        notes: N::leaf(alloc, spot),
     }
 }

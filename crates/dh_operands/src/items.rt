@@ -4,7 +4,6 @@ ghost use Rattle.dh_grammar.specs.Stubs.{stubs};
 ghost use Rattle.dh_operands.specs.Operands.{operand_of, items_of};
 
 use crate::nodes::several;
-use crate::notes::Notes;
 use crate::operands::Operand;
 use crate::parts::Part;
 use dh_syntax::{Many, Op};
@@ -12,17 +11,13 @@ use std::alloc::{AllocError, Global};
 
 /// The items of a list, in their order.
 #[derive(Drop)]
-pub struct Items<N> {
-    parts: Many<Part<N>>,
+pub struct Items {
+    parts: Many<Part>,
 }
 
-impl<N: Notes> Items<N> {
+impl Items {
     /// One item more behind those that there are.
-    pub fn add(
-        alloc: Global,
-        so_far: Option<Items<N>>,
-        item: Operand<N>,
-    ) -> Result<Items<N>, AllocError>
+    pub fn add(alloc: Global, so_far: Option<Items>, item: Operand) -> Result<Items, AllocError>
         ensures { IfOk result (λ is. items_of is ≡ stubs.add_item (option_map items_of so_far) (operand_of item)) }
     {
         let mut items = match so_far {
@@ -35,15 +30,11 @@ impl<N: Notes> Items<N> {
         Ok(items)
     }
 
-    /// The list; `spot` is its stretch from the one bracket to the other.
-    pub fn list(self, alloc: Global, spot: N::Spot) -> Result<Operand<N>, AllocError>
+    /// The list.
+    pub fn list(self, alloc: Global) -> Result<Operand, AllocError>
         ensures { IfOk result (λ x. operand_of x ≡ stubs.list false (items_of self) false) }
     {
-        let part = several(alloc, Op::List, self.parts.into_vec(), spot)?;
-        Ok(Operand {
-            part,
-            level: 17,
-            spot,
-        })
+        let part = several(alloc, Op::List, self.parts.into_vec())?;
+        Ok(Operand { part, level: 17 })
     }
 }

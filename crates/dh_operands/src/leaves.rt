@@ -2,126 +2,107 @@
 ghost use Rattle.std.specs.Prelude.{◌≡◌, false, None, Some, IfOk, []};
 ghost use Rattle.dh_grammar.specs.Stubs.{stubs, at, node, kept};
 ghost use Rattle.dh_operands.specs.Operands.{operand_of};
-ghost use Rattle.dh_operands.specs.Words.{word_of, source_of};
+ghost use Rattle.dh_making.specs.Words.{word_of, source_of};
 ghost use Rattle.dh_syntax.specs.Text.Meaning.{variable_term};
 
 use crate::gathering::kept;
 use crate::nodes::leaf;
-use crate::notes::Notes;
 use crate::operands::Operand;
-use crate::sources::Source;
-use crate::words::Word;
+use dh_making::{Source, Word};
 use dh_syntax::{Builtin, Digest, Expr, Import, Kids, Label, Many, Mode, Op};
-use std::alloc::{AllocError, Global};
+use std::alloc::Global;
 
-impl<N: Notes> Operand<N> {
-    pub fn natural(alloc: Global, n: u128, spot: N::Spot) -> Operand<N>
+impl Operand {
+    pub fn natural(alloc: Global, n: u128) -> Operand
         ensures { operand_of result ≡ stubs.natural n }
     {
-        primitive(alloc, Op::Nat(n), spot)
+        primitive(alloc, Op::Nat(n))
     }
 
-    pub fn integer(alloc: Global, z: i128, spot: N::Spot) -> Operand<N>
+    pub fn integer(alloc: Global, z: i128) -> Operand
         ensures { operand_of result ≡ stubs.integer z }
     {
-        primitive(alloc, Op::Int(z), spot)
+        primitive(alloc, Op::Int(z))
     }
 
-    pub fn truth(alloc: Global, value: bool, spot: N::Spot) -> Operand<N>
+    pub fn truth(alloc: Global, value: bool) -> Operand
         ensures { operand_of result ≡ stubs.truth value }
     {
-        primitive(alloc, Op::Bool(value), spot)
+        primitive(alloc, Op::Bool(value))
     }
 
-    pub fn builtin(alloc: Global, builtin: Builtin, spot: N::Spot) -> Operand<N>
+    pub fn builtin(alloc: Global, builtin: Builtin) -> Operand
         ensures { operand_of result ≡ stubs.builtin builtin }
     {
-        primitive(alloc, Op::Builtin(builtin), spot)
+        primitive(alloc, Op::Builtin(builtin))
     }
 
     /// `< >`
-    pub fn empty_union(alloc: Global, spot: N::Spot) -> Operand<N>
+    pub fn empty_union(alloc: Global) -> Operand
         ensures { operand_of result ≡ stubs.union_none false }
     {
-        primitive(alloc, Op::Union(Many::new(alloc)), spot)
+        primitive(alloc, Op::Union(Many::new(alloc)))
     }
 
     /// `{ }`
-    pub fn empty_record_type(alloc: Global, spot: N::Spot) -> Operand<N>
+    pub fn empty_record_type(alloc: Global) -> Operand
         ensures { operand_of result ≡ stubs.record_type_none false }
     {
-        primitive(alloc, Op::RecordType(Many::new(alloc)), spot)
+        primitive(alloc, Op::RecordType(Many::new(alloc)))
     }
 
     /// `{ = }`
-    pub fn empty_record(alloc: Global, spot: N::Spot) -> Operand<N>
+    pub fn empty_record(alloc: Global) -> Operand
         ensures { operand_of result ≡ stubs.record_none false false }
     {
-        primitive(alloc, Op::Record(Many::new(alloc)), spot)
+        primitive(alloc, Op::Record(Many::new(alloc)))
     }
 
     /// A name alone.
-    pub fn variable(alloc: Global, word: Word, spot: N::Spot) -> Operand<N>
+    pub fn variable(alloc: Global, word: Word) -> Operand
         ensures { operand_of result ≡ stubs.variable (word_of word) None }
     {
-        variable_of(alloc, word.into_label(), 0, spot)
+        variable_of(alloc, word.into_label(), 0)
     }
 
     /// `x@n`
-    pub fn indexed(alloc: Global, word: Word, index: u32, spot: N::Spot) -> Operand<N>
+    pub fn indexed(alloc: Global, word: Word, index: u32) -> Operand
         ensures { operand_of result ≡ stubs.variable (word_of word) (Some index) }
     {
-        variable_of(alloc, word.into_label(), index, spot)
+        variable_of(alloc, word.into_label(), index)
     }
 
-    /// An import. `location` is the stretch of what it asks for, `spot` that of the whole import.
-    pub fn import(
-        alloc: Global,
-        source: Source,
-        digest: Option<Digest>,
-        mode: Mode,
-        location: N::Spot,
-        spot: N::Spot,
-    ) -> Result<Operand<N>, AllocError>
-        ensures { IfOk result (λ x. operand_of x ≡ stubs.import (source_of source) digest mode) }
+    /// An import.
+    pub fn import(alloc: Global, source: Source, digest: Option<Digest>, mode: Mode) -> Operand
+        ensures { operand_of result ≡ stubs.import (source_of source) digest mode }
     {
-        let notes = N::import(alloc, location, spot)?;
         let import = Import {
             loc: source.into_location(),
             mode,
             digest,
         };
         let expression = Expr::Node(Op::Import(import), Kids::new(alloc));
-        Ok(Operand {
-            part: kept(alloc, expression, 0, notes, spot),
+        Operand {
+            part: kept(alloc, expression, 0),
             level: 15,
-            spot,
-        })
+        }
     }
 }
 
-fn primitive<N: Notes>(alloc: Global, op: Op, spot: N::Spot) -> Operand<N>
+fn primitive(alloc: Global, op: Op) -> Operand
     ensures { operand_of result ≡ at 17 (node op []) }
 {
     Operand {
-        part: leaf(alloc, op, spot),
+        part: leaf(alloc, op),
         level: 17,
-        spot,
     }
 }
 
-fn variable_of<N: Notes>(alloc: Global, label: Label, index: u32, spot: N::Spot) -> Operand<N>
+fn variable_of(alloc: Global, label: Label, index: u32) -> Operand
     ensures { operand_of result ≡ at 17 (kept (variable_term label (Some index)) 0) }
 {
     Operand {
-        part: kept(
-            alloc,
-            Expr::Var(label, index),
-            0,
-            N::leaf(alloc, spot),
-            spot,
-        ),
+        part: kept(alloc, Expr::Var(label, index), 0),
         level: 17,
-        spot,
     }
 }

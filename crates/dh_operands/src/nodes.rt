@@ -4,65 +4,51 @@ ghost use Rattle.dh_grammar.specs.Stubs.{node, unbound};
 ghost use Rattle.dh_operands.specs.Operands.{part_of};
 
 use crate::gathering::{Gathering, kept};
-use crate::notes::Notes;
 use crate::parts::Part;
 use dh_syntax::{Expr, Kids, Label, Op};
 use std::alloc::{AllocError, Global};
 
 /// A node without parts. It takes no memory.
-pub fn leaf<N: Notes>(alloc: Global, op: Op, spot: N::Spot) -> Part<N>
+pub fn leaf(alloc: Global, op: Op) -> Part
     ensures { part_of result ≡ node op [] }
 {
-    kept(
-        alloc,
-        Expr::Node(op, Kids::new(alloc)),
-        0,
-        N::leaf(alloc, spot),
-        spot,
-    )
+    kept(alloc, Expr::Node(op, Kids::new(alloc)), 0)
 }
 
 /// A node with one part.
-pub fn one<N: Notes>(
-    alloc: Global,
-    op: Op,
-    part: Part<N>,
-    spot: N::Spot,
-) -> Result<Part<N>, AllocError>
+pub fn one(alloc: Global, op: Op, part: Part) -> Result<Part, AllocError>
     ensures { IfOk result (λ p. part_of p ≡ node op ((None, part_of part) ∷ [])) }
 {
     let mut parts = Gathering::new(alloc);
     parts.push(None, part)?;
-    Ok(parts.finish(alloc, op, spot))
+    Ok(parts.finish(alloc, op))
 }
 
 /// A node with two parts, the second under a binder where there is one.
-pub fn two<N: Notes>(
+pub fn two(
     alloc: Global,
     op: Op,
-    left: Part<N>,
+    left: Part,
     binder: Option<Label>,
-    right: Part<N>,
-    spot: N::Spot,
-) -> Result<Part<N>, AllocError>
+    right: Part,
+) -> Result<Part, AllocError>
     ensures { IfOk result (λ p. part_of p ≡ node op ((None, part_of left) ∷ (binder, part_of right) ∷ [])) }
 {
     let mut parts = Gathering::new(alloc);
     parts.push(None, left)?;
     parts.push(binder, right)?;
-    Ok(parts.finish(alloc, op, spot))
+    Ok(parts.finish(alloc, op))
 }
 
 /// A node with three parts, the third under a binder where there is one.
-pub fn three<N: Notes>(
+pub fn three(
     alloc: Global,
     op: Op,
-    first: Part<N>,
-    second: Part<N>,
+    first: Part,
+    second: Part,
     binder: Option<Label>,
-    third: Part<N>,
-    spot: N::Spot,
-) -> Result<Part<N>, AllocError>
+    third: Part,
+) -> Result<Part, AllocError>
     ensures { IfOk result (λ p.
         part_of p ≡ node op ((None, part_of first) ∷ (None, part_of second) ∷ (binder, part_of third) ∷ [])) }
 {
@@ -70,19 +56,14 @@ pub fn three<N: Notes>(
     parts.push(None, first)?;
     parts.push(None, second)?;
     parts.push(binder, third)?;
-    Ok(parts.finish(alloc, op, spot))
+    Ok(parts.finish(alloc, op))
 }
 
 /// A node with these parts.
-pub fn several<N: Notes>(
-    alloc: Global,
-    op: Op,
-    parts: Vec<Part<N>>,
-    spot: N::Spot,
-) -> Result<Part<N>, AllocError>
+pub fn several(alloc: Global, op: Op, parts: Vec<Part>) -> Result<Part, AllocError>
     ensures { IfOk result (λ p. part_of p ≡ node op (unbound (map part_of parts.items))) }
 {
     let mut gathered = Gathering::new(alloc);
     gathered.push_all(parts)?;
-    Ok(gathered.finish(alloc, op, spot))
+    Ok(gathered.finish(alloc, op))
 }

@@ -4,37 +4,29 @@ ghost use Rattle.dh_grammar.specs.Stubs.{stubs};
 ghost use Rattle.dh_operands.specs.Operands.{operand_of, note_of};
 ghost use Rattle.dh_syntax.specs.Expressions.Levels.{level_of, left_level};
 
-use crate::notes::Notes;
 use crate::parts::Part;
 use dh_syntax::BinOp;
 
-/// A part, how tightly it binds, and the stretch of all its tokens, with its brackets.
+/// A part, and how tightly it binds.
 #[derive(Drop)]
-pub struct Operand<N: Notes> {
-    pub part: Part<N>,
+pub struct Operand {
+    pub part: Part,
     pub level: u32,
-    pub spot: N::Spot,
 }
 
-impl<N: Notes> Operand<N> {
-    /// `(e)`; `spot` is the stretch from the one bracket to the other.
-    pub fn bracketed(self, spot: N::Spot) -> Operand<N>
+impl Operand {
+    /// `(e)`
+    pub fn bracketed(self) -> Operand
         ensures { operand_of result ≡ stubs.brackets (operand_of self) }
     {
-        let Operand {
-            part,
-            level: _,
-            spot: _,
-        } = self;
         Operand {
-            part,
+            part: self.part,
             level: 17,
-            spot,
         }
     }
 
     /// The annotation that an operand is.
-    pub fn into_note(self) -> Option<Part<N>>
+    pub fn into_note(self) -> Option<Part>
         ensures { note_of result ≡ stubs.typed (operand_of self) }
     {
         Some(self.part)

@@ -1,12 +1,2 @@
-pub mod Fronts
-pub mod Operands
-pub mod Pendings
-pub mod SmallGrammar
-pub mod SmallLaws
-pub mod SmallLimits
-pub mod SmallMachine
-pub mod SmallSpelling
-pub mod SmallTerms
-pub mod SmallTokens
-pub mod Stacks
-pub mod States
+pub mod Answers
+pub mod Inside

@@ -1,11 +1,18 @@
-//! From text to expressions, over the small language of numbers, truth values, brackets and four operators.
+//! From text to expressions: the parser of the whole grammar (`dhall.abnf`).
+//!
+//! `parse` reads the tokens of a text one at a time and never looks ahead: `after` takes the state (the frames and what
+//! stands above them, of `dh_frames`) over one token, as the machine of the grammar does (`Machine` in `dh_grammar`).
+//! The functions within do what the machine's functions do; the clauses of `parse` speak of the definition of spelling
+//! alone. `parse_imports` and `parse_spans` answer the same expression or fault, with the places of its imports or of all
+//! its nodes.
 #![tactic(auto)]
 
-mod fronts;
-pub mod laws;
-mod machines;
-mod operands;
-mod stacks;
+mod placed;
+mod reading;
+mod steps;
+#[cfg(test)]
+mod tests;
 mod texts;
 
+pub use placed::{parse_imports, parse_spans};
 pub use texts::parse;

@@ -1,101 +1,92 @@
 //! From the bytes of a text to the expression that they spell.
-ghost use Rattle.std.specs.Prelude.{◌≡◌, ◌≢◌, ◌≤◌, Some, None, IfOk, IfErr, Ok, Err, length, drop};
+#![tactic(none)]
+
+ghost use Rattle.std.specs.Prelude.{◌≡◌, ◌≢◌, ◌≤◌, List, Ok, Err, IfOk, IfErr, Result, length};
+ghost use Rattle.dh_grammar.specs.Parsed.{answered, parsed, parsed_lex, parsed_tokens};
+ghost use Rattle.dh_grammar.specs.Reading.{accepted};
+ghost use Rattle.dh_operands.specs.Operands.{operand_of};
+ghost use Rattle.dh_parse.specs.Answers.{Answers};
+ghost use Rattle.dh_syntax.specs.declared.faults.ParseFault.TheVariants.{Memory};
+ghost use Rattle.dh_syntax.specs.declared.tokens.Token.{Token};
 ghost use Rattle.dh_syntax.specs.Expressions.Arity.{IsWellFormed};
 ghost use Rattle.dh_syntax.specs.Expressions.Bridge.{term};
 ghost use Rattle.dh_syntax.specs.Expressions.Nesting.{nesting};
-ghost use Rattle.dh_syntax.specs.declared.faults.ParseFault.TheVariants.{Memory, Syntax};
-ghost use Rattle.dh_parse.specs.SmallLimits.{read_within, outcome};
-ghost use Rattle.dh_parse.specs.SmallSpelling.{ParsesTo};
-ghost use Rattle.dh_parse.specs.SmallTerms.{IsSmall};
-ghost use Rattle.dh_parse.specs.SmallTokens.{tokens_of};
-ghost use Rattle.dh_parse.specs.States.{state_of};
+ghost use Rattle.dh_syntax.specs.Expressions.Spellable.{IsSpellable};
+ghost use Rattle.dh_syntax.specs.Limits.{most_bytes};
+ghost use Rattle.dh_syntax.specs.Text.Lexing as lexing;
+ghost use Rattle.dh_syntax.specs.Text.Lexing.{lex};
+ghost use Rattle.dh_syntax.specs.Text.Spelling.{ParsesTo};
+ghost use Rattle.dh_tokens.specs.Reading as tokens;
 
-use crate::fronts::{Front, front_at};
-use crate::machines::after;
-use crate::operands::Operand;
-use crate::stacks::Stack;
-use dh_syntax::{Expr, ParseFault};
+use crate::reading::read;
+use dh_operands::{Expressions, Operand};
+use dh_syntax::{Expr, MOST_BYTES, MOST_NESTING, ParseFault};
+use dh_tokens::{LexFault, Tokens, tokens};
 use std::alloc::Global;
 
-/// How many bytes a text may have.
-const MOST_BYTES: usize = 1_048_576;
-
-/// What stands behind so many bytes.
-fn behind(bytes: &[u8], n: usize) -> &[u8]
-    requires { n ≤ length bytes.now }
-    ensures { result.now ≡ drop n bytes.now }
+/// The expression of an operand, where it does not nest too deep.
+fn expression_of(operand: Operand) -> Result<Expr, ParseFault>
+    ensures { Answers (answered (accepted (operand_of operand))) result }
 {
-    &bytes[n..]
-}
-
-/// The operand after all tokens of a text are read.
-fn read_all(alloc: Global, stack: &mut Stack, bytes: &[u8]) -> Result<Option<Operand>, ParseFault>
-    ensures ok { IfOk result (λ x.
-        read_within (state_of stack.new x) ≡ outcome (state_of stack.old None) (tokens_of bytes.now)) }
-    ensures err { IfErr result (λ f. f ≢ Memory
-        → (f ≡ Syntax 0) × (outcome (state_of stack.old None) (tokens_of bytes.now) ≡ None)) }
-{
-    let mut rest = bytes;
-    let mut gap = true;
-    let mut current = None;
-    while !rest.is_empty() {
-        match front_at(rest) {
-            Front::White(n) => {
-                rest = behind(rest, n);
-                gap = true;
-            }
-            Front::Sign(symbol, n) => {
-                match after(alloc, stack, current, symbol, gap) {
-                    Ok(operand) => current = operand,
-                    Err(fault) => return Err(fault),
-                }
-                rest = behind(rest, n);
-                gap = false;
-            }
-            Front::Nothing => return Err(ParseFault::Syntax(0)),
-        }
+    if operand.part.nests > MOST_NESTING {
+        return Err(ParseFault::TooNested);
     }
-    Ok(current)
+    Ok(operand.part.expression)
 }
 
-/// The expression that has been read, if the text ends here.
-fn finish(alloc: Global, stack: &mut Stack, current: Option<Operand>) -> Result<Expr, ParseFault>
-    ensures ok { IfOk result (λ e. read_within (state_of stack.old current) ≡ Some (term e)) }
-    ensures err { IfErr result (λ f. f ≢ Memory
-        → (f ≡ Syntax 0) × (read_within (state_of stack.old current) ≡ None)) }
+/// The expression that the tokens of a text spell.
+fn parse_tokens(alloc: Global, tokens: Tokens) -> Result<Expr, ParseFault>
+    ensures { Answers (parsed_tokens tokens) result }
 {
-    let Some(operand) = current else {
-        return Err(ParseFault::Syntax(0));
-    };
-    match stack.reduced(alloc, 0, operand) {
-        Ok(whole) => {
-            if stack.is_empty() {
-                Ok(whole.into_expression())
-            } else {
-                Err(ParseFault::Syntax(0))
-            }
-        }
+    match read::<Expressions>(alloc, tokens) {
+        Ok(operand) => expression_of(operand),
         Err(fault) => Err(fault),
     }
 }
 
-/// The expression that a text spells. What spells none is `Syntax(0)`.
+/// The fault of a text that has no tokens.
+fn lexical_fault(fault: LexFault) -> ParseFault
+    ensures { (read : Result (List Token) lexing.LexFault) → tokens.IsFault read fault → Answers (parsed_lex read) (Err result) }
+{
+    match fault {
+        LexFault::Bad(at) => ParseFault::Syntax(at),
+        LexFault::Wide(at) => ParseFault::Wide(at),
+        LexFault::Out(at) => ParseFault::Out(at),
+        LexFault::Memory => ParseFault::Memory,
+    }
+}
+
+/// The expression that a text spells.
+fn parse_text(alloc: Global, text: &str) -> Result<Expr, ParseFault>
+    requires { length text.now ≤ most_bytes }
+    ensures { Answers (parsed_lex (lex text.now)) result }
+{
+    match tokens(alloc, text) {
+        Ok(tokens) => parse_tokens(alloc, tokens),
+        Err(fault) => Err(lexical_fault(fault)),
+    }
+}
+
+/// What `parsed` says of the bytes.
+fn parse_bytes(alloc: Global, bytes: &[u8]) -> Result<Expr, ParseFault>
+    ensures { Answers (parsed bytes.now) result }
+{
+    if bytes.len() > MOST_BYTES {
+        return Err(ParseFault::TooLarge);
+    }
+    match str::from_utf8(bytes) {
+        Ok(text) => parse_text(alloc, text),
+        Err(fault) => Err(ParseFault::NotUtf8(fault.valid_up_to() as u32)),
+    }
+}
+
+/// The expression that a text spells, in the whole grammar (`dhall.abnf`), or the text's one fault.
 pub fn parse(alloc: Global, bytes: &[u8]) -> Result<Expr, ParseFault>
     ensures spelled { IfOk result (λ e. ParsesTo bytes.now (Ok (term e))) }
     ensures refused { IfErr result (λ f. f ≢ Memory → ParsesTo bytes.now (Err f)) }
+    ensures spellable { IfOk result (λ e. IsSpellable (term e)) }
     ensures well_formed { IfOk result (λ e. IsWellFormed (term e)) }
-    ensures small { IfOk result (λ e. IsSmall (term e)) }
     ensures shallow { IfOk result (λ e. nesting (term e) ≤ 500) }
 {
-    if bytes.len() > MOST_BYTES {
-        return Err(ParseFault::Syntax(0));
-    }
-    let mut stack = Stack::new(alloc);
-    match read_all(alloc, &mut stack, bytes) {
-        Ok(current) => finish(alloc, &mut stack, current),
-        Err(fault) => Err(fault),
-    }
+    parse_bytes(alloc, bytes)
 }
-
-#[cfg(test)]
-mod tests;

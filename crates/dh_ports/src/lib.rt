@@ -1,4 +1,5 @@
-//! The streams that the command reads from and writes to: the traits that devices meet, and both in memory.
+//! The streams that the command reads from and writes to: the traits that devices meet, and both in memory; and what is found
+//! outside, with what contracts may know of it.
 //!
 //! A [`Feed`] gives bytes and a [`Sink`] takes them. Each may tell what it has left or has taken, so that contracts can speak
 //! of it, and counts its failed calls: a call that fails changes nothing else. [`MemFeed`] and [`MemSink`] fail exactly at the
@@ -11,13 +12,21 @@
 #![tactic(auto)]
 
 mod calls;
+mod desks;
 mod feeds;
+mod gates;
+mod mem_desks;
 mod mem_feeds;
 mod mem_sinks;
 mod sinks;
+mod worlds;
 
 pub use calls::CallList;
+pub use desks::{Desk, DeskError};
 pub use feeds::{Feed, ReadError};
+pub use gates::{Gate, HoldGate, OpenGate};
+pub use mem_desks::{Cache, CacheEntry, Content, Contents, DeskFails, MemDesk, are_short};
 pub use mem_feeds::MemFeed;
 pub use mem_sinks::MemSink;
 pub use sinks::{Sink, WriteError};
+pub use worlds::{Found, Got, Silent, World};

@@ -1,3 +1,5 @@
+//! Printed texts of expressions that are given by hand.
+
 use crate::print;
 use dh_syntax::{
     Alt, BinOp, Builtin, Digest, Expr, Import, Kid, Kids, Label, Labels, Loc, Many, Mode, Op,

@@ -38,9 +38,16 @@ most_text_bytes = 16_777_216
 abbrev pub most_elements : ℕ
 most_elements = 1_048_576
 
--- the height and the nesting of what a run reaches, at most
+-- the height of what a run reaches, at most, and its nesting
 abbrev pub most_height : ℕ
-most_height = 1000
+most_height = 1_048_576
+
+abbrev pub most_reached : ℕ
+most_reached = 1000
+
+-- the height of what the plain run reaches, at most
+abbrev pub most_plain_height : ℕ
+most_plain_height = 1000
 
 -- the units that an item has for its typing, and as many again for its normal form
 abbrev pub whole_purse : ℕ

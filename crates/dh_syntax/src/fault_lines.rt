@@ -48,7 +48,7 @@ impl fmt::Display for NormFault {
         match self {
             NormFault::Wide => write!(f, "number or literal too wide"),
             NormFault::Spent => write!(f, "budget of 16777216 spent"),
-            NormFault::Deep => write!(f, "deeper than 1000"),
+            NormFault::Deep => write!(f, "too deep"),
             NormFault::Memory => write!(f, "out of memory"),
         }
     }
@@ -91,7 +91,7 @@ impl fmt::Display for TypeFault {
             TypeFault::Ill(ill) => write!(f, "{ill}"),
             TypeFault::Wide => write!(f, "number or literal too wide"),
             TypeFault::Spent => write!(f, "budget of 16777216 spent"),
-            TypeFault::Deep => write!(f, "deeper than 1000"),
+            TypeFault::Deep => write!(f, "too deep"),
             TypeFault::Memory => write!(f, "out of memory"),
         }
     }

@@ -36,8 +36,8 @@ pub use expressions::{Alt, Alts, Expr, Kid, Kids, Labels, Op, Pieces};
 pub use faults::{DecodeFault, Ill, NormFault, ParseFault, Path, TypeFault};
 pub use limits::{
     DEFAULT_WORKERS, MOST_BYTES, MOST_ELEMENTS, MOST_ENTRY_BYTES, MOST_HEIGHT, MOST_INDEX,
-    MOST_KEYS, MOST_NESTING, MOST_OPEN, MOST_OPEN_ITEMS, MOST_TEXT_BYTES, MOST_WORKERS,
-    WHOLE_PURSE, limits_agree,
+    MOST_KEYS, MOST_NESTING, MOST_OPEN, MOST_OPEN_ITEMS, MOST_PLAIN_HEIGHT, MOST_REACHED,
+    MOST_TEXT_BYTES, MOST_WORKERS, WHOLE_PURSE, limits_agree,
 };
 pub use lists::Many;
 pub use locations::{Comps, Digest, Import, Key, Loc, Mode, Url};

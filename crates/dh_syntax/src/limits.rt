@@ -24,8 +24,14 @@ pub const MOST_TEXT_BYTES: usize = 16_777_216;
 /// The elements of a list that `#` makes, at most.
 pub const MOST_ELEMENTS: usize = 1_048_576;
 
-/// The height and the nesting of what a run reaches, at most.
-pub const MOST_HEIGHT: u32 = 1000;
+/// The height of what a run reaches, at most.
+pub const MOST_HEIGHT: u32 = 1_048_576;
+
+/// The nesting of what a run reaches, at most.
+pub const MOST_REACHED: u32 = 1000;
+
+/// The height of what the plain run reaches, at most.
+pub const MOST_PLAIN_HEIGHT: u32 = 1000;
 
 /// The units that an item has for its typing, and as many again for its normal form.
 pub const WHOLE_PURSE: u64 = 16_777_216;
@@ -52,6 +58,8 @@ pub fn limits_agree()
     ensures text_bytes { MOST_TEXT_BYTES ≡ limits.most_text_bytes }
     ensures elements { MOST_ELEMENTS ≡ limits.most_elements }
     ensures height { MOST_HEIGHT ≡ limits.most_height }
+    ensures reached { MOST_REACHED ≡ limits.most_reached }
+    ensures plain_height { MOST_PLAIN_HEIGHT ≡ limits.most_plain_height }
     ensures purse { WHOLE_PURSE ≡ limits.whole_purse }
     ensures keys { MOST_KEYS ≡ limits.most_keys }
     ensures workers { MOST_WORKERS ≡ limits.most_workers }

@@ -1,10 +1,13 @@
 pub mod Blankings
 pub mod Capped
+pub mod CoreRows
+pub mod CoreTrees
 pub mod FreeRows
 pub mod KidItems
 pub mod Liftings
 pub mod MoveRows
 pub mod Outer
+pub mod ReadBack
 pub mod SameRows
 pub mod Shapes
 pub mod ShiftRows

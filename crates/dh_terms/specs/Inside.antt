@@ -4,3 +4,4 @@ pub mod Blanks
 pub mod Lifting
 pub mod Outer
 pub mod Steps
+pub mod Variables

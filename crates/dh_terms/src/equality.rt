@@ -3,9 +3,10 @@
 ghost use Rattle.std.specs.Prelude.{◌≡◌};
 ghost use Rattle.dh_syntax.specs.Expressions.Numbers.{bytes_eq};
 ghost use Rattle.dh_syntax.specs.Expressions.SameTree.{list_eq, option_eq, alt_eq, url_eq, loc_eq, digest_eq, mode_eq, import_eq, builtin_eq, bin_eq, op_eq};
+ghost use Rattle.dh_syntax.specs.Imports.Keys.{key_eq};
 
 use crate::binders::is_named;
-use dh_syntax::{Alt, BinOp, Builtin, Digest, Import, Label, Loc, Mode, Op, Piece, Url};
+use dh_syntax::{Alt, BinOp, Builtin, Digest, Import, Key, Label, Loc, Mode, Op, Piece, Url};
 
 /// Whether the two pieces are equal.
 fn is_same_piece(p: &Piece, q: &Piece) -> bool
@@ -87,7 +88,7 @@ fn is_same_url(u: &Url, v: &Url) -> bool
 }
 
 /// Whether the two locations are equal.
-fn is_same_loc(a: &Loc, b: &Loc) -> bool
+pub fn is_same_loc(a: &Loc, b: &Loc) -> bool
     ensures { result ≡ loc_eq a.now b.now }
 {
     match (a, b) {
@@ -119,6 +120,15 @@ fn is_same_mode(m: Mode, n: Mode) -> bool
     ensures { result ≡ mode_eq m n }
 {
     m == n
+}
+
+/// Whether the two keys are equal.
+pub fn is_same_key(j: &Key, k: &Key) -> bool
+    ensures { result ≡ key_eq j.now k.now }
+{
+    is_same_loc(&j.loc, &k.loc)
+        && is_same_mode(j.mode, k.mode)
+        && is_same_digest(&j.digest, &k.digest)
 }
 
 /// Whether the two imports are equal.

@@ -14,9 +14,11 @@
 mod alpha_forms;
 mod binders;
 mod conditions;
+mod cores;
 mod equality;
 mod free_variables;
 pub mod laws;
+mod nameless;
 mod sameness;
 mod shifting;
 mod substitution;
@@ -24,7 +26,10 @@ mod weakening;
 
 pub use alpha_forms::alpha;
 pub use conditions::{fits_alpha, fits_shift, fits_subst};
+pub use cores::{Core, CoreKid, CoreKids};
+pub use equality::{is_same_key, is_same_loc};
 pub use free_variables::free;
+pub use nameless::{from_core, to_core};
 pub use sameness::same;
 pub use shifting::shift;
 pub use substitution::subst;

@@ -12,12 +12,11 @@ use Rattle.dh_syntax.specs.declared.faults.ParseFault.TheVariants as parse
 use Rattle.dh_syntax.specs.declared.verbs.Verb.{Verb}
 use Rattle.dh_syntax.specs.declared.verbs.Verb.TheVariants as verb
 use Rattle.dh_syntax.specs.Bytes.BinaryFaults.{DecodesTo}
-use Rattle.dh_parse.specs.SmallSpelling.{ParsesTo}
-use Rattle.dh_syntax.specs.Command.Answer.{Response, encoded, decoded, misspelt, misused, unread}
-use Rattle.dh_top.specs.Answering.{Does, encodes, decodes, decodes_none, usage, does}
+use Rattle.dh_syntax.specs.Command.Answer.{Response, Does, encodes, decodes, decodes_none, usage, does, encoded, decoded, misspelt, misused, unread}
 use Rattle.dh_syntax.specs.Command.Words.{Word, command_of, reads}
 use Rattle.dh_syntax.specs.Expressions.Tree.{Term}
 use Rattle.dh_syntax.specs.Limits.{most_bytes}
+use Rattle.dh_syntax.specs.Text.Spelling.{ParsesTo}
 use Rattle.dh_top.specs.declared.replies.Reply.{Reply}
 use Rattle.dh_top.specs.Replies.{written, Performs}
 use Rattle.dh_top.specs.Runs.{Input, Makes, answers, cannot_read, IsRead, IsTaken, IsLeft, IsQuiet, reading, most_read}
@@ -25,17 +24,17 @@ use Rattle.dh_top.specs.Runs.{Input, Makes, answers, cannot_read, IsRead, IsTake
 -- ---- the reply to what a text is parsed to, and to what bytes are decoded to
 
 pub encodes_any : (r : Result Reply AllocError) (text : List ℕ) (o : Result Term ParseFault) → ParsesTo text o
-    → IfOk r (λ x. written x ≡ encoded o) → IfOk r (λ x. Does ParsesTo verb.Encode text (written x))
+    → IfOk r (λ x. written x ≡ encoded o) → IfOk r (λ x. Does verb.Encode text (written x))
 encodes_any (Ok x) text o p w = encodes o refl p w
 encodes_any (Err e) text o p w = tt
 
 pub decodes_any : (r : Result Reply AllocError) (bytes : List ℕ) (o : Result Term DecodeFault) → length bytes ≤ most_bytes → DecodesTo bytes o
-    → IfOk r (λ x. written x ≡ decoded o) → IfOk r (λ x. Does ParsesTo verb.Decode bytes (written x))
+    → IfOk r (λ x. written x ≡ decoded o) → IfOk r (λ x. Does verb.Decode bytes (written x))
 decodes_any (Ok x) bytes o s p w = decodes o refl s p w
 decodes_any (Err e) bytes o s p w = tt
 
 pub decodes_too_large : (r : Result Reply AllocError) (bytes : List ℕ) → most_bytes < length bytes
-    → IfOk r (λ x. written x ≡ misspelt parse.TooLarge) → IfOk r (λ x. Does ParsesTo verb.Decode bytes (written x))
+    → IfOk r (λ x. written x ≡ misspelt parse.TooLarge) → IfOk r (λ x. Does verb.Decode bytes (written x))
 decodes_too_large (Ok x) bytes l w = decodes_none refl l w
 decodes_too_large (Err e) bytes l w = tt
 
@@ -46,10 +45,16 @@ read_length : (n : ℕ) (text : List ℕ) → n ≡ 1048577 → n ≤ length tex
 read_length n text m h = length-take-le n text h ∙ m
 
 longer_parse : (n : ℕ) (text : List ℕ) (o : Result Term ParseFault) → n ≡ 1048577 → n ≤ length text → ParsesTo (take n text) o → ParsesTo text o
-longer_parse n text (Ok e) m h p = absurd (let s = p.short in let l = read_length n text m h in omega (arith, s, l))
-longer_parse n text (Err f) m h p = (p.0, λ e s. let short = s.short in omega arith)
+longer_parse n text (Ok e) m h p = absurd (let s = p.is_text.0 in let l = read_length n text m h in omega (arith, s, l))
+longer_parse n text (Err parse.TooLarge) m h p = omega (arith, m, h)
+longer_parse n text (Err (parse.NotUtf8 at)) m h p = absurd (let s = p.0 in let l = read_length n text m h in omega (arith, s, l))
+longer_parse n text (Err (parse.Syntax at)) m h p = absurd (let s = p.0.0 in let l = read_length n text m h in omega (arith, s, l))
+longer_parse n text (Err (parse.Wide at)) m h p = absurd (let s = p.0.0 in let l = read_length n text m h in omega (arith, s, l))
+longer_parse n text (Err (parse.Out at)) m h p = absurd (let s = p.0.0 in let l = read_length n text m h in omega (arith, s, l))
+longer_parse n text (Err parse.TooNested) m h p = absurd (let s = p.0.0 in let l = read_length n text m h in omega (arith, s, l))
+longer_parse n text (Err parse.Memory) m h p = p
 
-longer : (v : Verb) (n : ℕ) (text : List ℕ) (w : Response) → n ≡ 1048577 → n ≤ length text → Does ParsesTo v (take n text) w → Does ParsesTo v text w
+longer : (v : Verb) (n : ℕ) (text : List ℕ) (w : Response) → n ≡ 1048577 → n ≤ length text → Does v (take n text) w → Does v text w
 longer v n text w m h (encodes o e p q) = encodes o e (longer_parse n text o m h p) q
 longer v n text w m h (decodes o e s p q) = absurd (let l = read_length n text m h in omega (arith, s, l))
 longer v n text w m h (decodes_none e l q) = decodes_none e (omega (arith, m, h)) q
@@ -62,10 +67,10 @@ cases_le : (m n : ℕ) → (m ≤ n) ⊎ (n ≤ m)
 cases_le m n = by_test m n (nat_lt n m) refl
 
 -- what was read of an input is answered as the whole input
-whole : (v : Verb) (n : ℕ) (text bytes : List ℕ) (w : Response) → n ≡ 1048577 → bytes ≡ take n text → Does ParsesTo v bytes w → Does ParsesTo v text w
+whole : (v : Verb) (n : ℕ) (text bytes : List ℕ) (w : Response) → n ≡ 1048577 → bytes ≡ take n text → Does v bytes w → Does v text w
 whole v n text bytes w m e p = elim (cases_le (length text) n) [
-  | inl h ↦ subst (λ t. Does ParsesTo v t w) (e ∙ take_all n text h) p
-  | inr h ↦ longer v n text w m h (subst (λ t. Does ParsesTo v t w) e p)
+  | inl h ↦ subst (λ t. Does v t w) (e ∙ take_all n text h) p
+  | inr h ↦ longer v n text w m h (subst (λ t. Does v t w) e p)
 ]
 
 -- ---- a command on its input
@@ -83,7 +88,7 @@ is_read : (words : List Word) (c : Command) (text : List ℕ) (input : Input) �
 is_read words c text input e taken = subst (λ r. IsRead r text input) (sym e) (read_by (reads c.verb) text input (all_read c.verb) taken)
 
 made : (n : ℕ) (before after : Option (List ℕ)) (f g : ℕ) (words : List Word) (c : Command) (bytes : List ℕ) (w : Response) → n ≡ 1048577 → command_of words ≡ Ok c
-    → Consumes before after bytes → IfSome before (λ left. bytes ≡ take n left) → g ≡ f → Does ParsesTo c.verb bytes w → Makes ParsesTo words (reading before after f g) w
+    → Consumes before after bytes → IfSome before (λ left. bytes ≡ take n left) → g ≡ f → Does c.verb bytes w → Makes words (reading before after f g) w
 made n None after f g words c bytes w m e taken all quiet r = answers bytes (is_read words c bytes (reading None after f g) e (tt, tt, quiet)) (does c e r)
 made n (Some left) after f g words c bytes w m e taken all quiet r =
     let part : bytes ≡ take 1048577 left = subst (λ k. bytes ≡ take k left) m all in
@@ -92,27 +97,27 @@ made n (Some left) after f g words c bytes w m e taken all quiet r =
 
 -- a command on what was read; `bytes` is seen through a slice
 pub performs_command : (c : Command) (n : ℕ) (before after : Option (List ℕ)) (f g : ℕ) (bytes seen : List ℕ) (r : Result Reply AllocError) → n ≡ 1048577
-    → Consumes before after bytes → IfSome before (λ left. bytes ≡ take n left) → g ≡ f → seen ≡ bytes → IfOk r (λ x. Does ParsesTo c.verb seen (written x))
-    → IfOk r (λ x. Performs ParsesTo c (reading before after f g) (written x))
+    → Consumes before after bytes → IfSome before (λ left. bytes ≡ take n left) → g ≡ f → seen ≡ bytes → IfOk r (λ x. Does c.verb seen (written x))
+    → IfOk r (λ x. Performs c (reading before after f g) (written x))
 performs_command c n before after f g bytes seen (Ok x) m taken all quiet s h =
-    λ words e. made n before after f g words c bytes (written x) m e taken all quiet (subst (λ t. Does ParsesTo c.verb t (written x)) s h)
+    λ words e. made n before after f g words c bytes (written x) m e taken all quiet (subst (λ t. Does c.verb t (written x)) s h)
 performs_command c n before after f g bytes seen (Err e) m taken all quiet s h = tt
 
 -- an input that could not be read
 pub performs_unread : (c : Command) (input : Input) (r : Result Reply AllocError) → Rose input.faults_before input.faults_after → IfOk r (λ x. written x ≡ unread)
-    → IfOk r (λ x. Performs ParsesTo c input (written x))
+    → IfOk r (λ x. Performs c input (written x))
 performs_unread c input (Ok x) rose h = λ words e. cannot_read c e rose h
 performs_unread c input (Err e) rose h = tt
 
 -- a command by its words
 pub made_by_words : (words : List Word) (c : Command) (input : Input) (r : Result Reply AllocError) → command_of words ≡ Ok c
-    → IfOk r (λ x. Performs ParsesTo c input (written x)) → IfOk r (λ x. Makes ParsesTo words input (written x))
+    → IfOk r (λ x. Performs c input (written x)) → IfOk r (λ x. Makes words input (written x))
 made_by_words words c input (Ok x) e h = h words e
 made_by_words words c input (Err x) e h = tt
 
 -- words that are no command line
 pub made_misused : (words : List Word) (k : ℕ) (input : Input) (r : Result Reply AllocError) → command_of words ≡ Err k → Keeps input.before input.after → IsQuiet input
-    → IfOk r (λ x. written x ≡ misused k) → IfOk r (λ x. Makes ParsesTo words input (written x))
+    → IfOk r (λ x. written x ≡ misused k) → IfOk r (λ x. Makes words input (written x))
 made_misused words k input (Ok x) e kept quiet h = answers [] (subst (λ r. IsRead r [] input) (sym e) (kept, quiet)) (usage k e h)
 made_misused words k input (Err x) e kept quiet h = tt
 

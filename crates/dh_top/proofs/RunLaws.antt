@@ -2,7 +2,7 @@
 use Rattle.std.proofs.Common.{◌≡◌, ◌⊎◌, inl, inr, ℕ, List, Option, Some, None, Result, Ok, Err, IfOk, IfSome, Bool, true, false, true≢false, refl, sym, ap, ◌∙◌, subst, arith}
 use Rattle.std.specs.Prelude.{IsErr, MatchBool}
 use Rattle.std.specs.declared.alloc.AllocError.{AllocError}
-use Rattle.dh_parse.specs.SmallSpelling.{ParsesTo}
+use Rattle.dh_grammar.proofs.Results.Answering.{parses_once}
 use Rattle.dh_ports.specs.Counts.{Rose}
 use Rattle.dh_syntax.proofs.BinaryFaultLaws.{decodes-unique}
 use Rattle.dh_syntax.specs.declared.commands.Command.{Command}
@@ -12,8 +12,7 @@ use Rattle.dh_syntax.specs.declared.statuses.Status.{Status}
 use Rattle.dh_syntax.specs.declared.statuses.Status.TheVariants as status
 use Rattle.dh_syntax.specs.declared.verbs.Verb.{Verb}
 use Rattle.dh_syntax.specs.declared.verbs.Verb.TheVariants as verb
-use Rattle.dh_syntax.specs.Command.Answer.{Response, encoded, decoded}
-use Rattle.dh_top.specs.Answering.{Does, encodes, decodes, decodes_none, usage, does, Succeeds}
+use Rattle.dh_syntax.specs.Command.Answer.{Response, Does, encodes, decodes, decodes_none, usage, does, encoded, decoded, Succeeds}
 use Rattle.dh_syntax.specs.Command.Words.{Word, command_of, reads}
 use Rattle.dh_syntax.specs.Expressions.Tree.{Term}
 use Rattle.dh_top.proofs.Encodings.{all_read}
@@ -45,15 +44,14 @@ taken_by true text input e t = t
 taken_by false text input e t = absurd (true≢false (sym e))
 
 -- a command on an input that it answers succeeds where no device fails
-ok_when_parsed : (text : List ℕ) (o : Result Term ParseFault) (e : Term) → ParsesTo text (Ok e) → ParsesTo text o → (encoded o).status ≡ status.Ok
-ok_when_parsed text (Ok f) e p q = refl
-ok_when_parsed text (Err f) e p q = absurd (q.1 e p)
+ok_when_parsed : (o : Result Term ParseFault) (e : Term) → o ≡ Ok e → (encoded o).status ≡ status.Ok
+ok_when_parsed o e h = ap (λ o. (encoded o).status) h
 
 ok_when_read : (o : Result Term DecodeFault) (e : Term) → o ≡ Ok e → (decoded o).status ≡ status.Ok
 ok_when_read o e h = ap (λ o. (decoded o).status) h
 
-done : (v : Verb) (text : List ℕ) (w : Response) → Succeeds ParsesTo v text → Does ParsesTo v text w → w.status ≡ status.Ok
-done verb.Encode text w s (encodes o h p q) = ap (λ w. w.status) q ∙ ok_when_parsed text o s.0 s.1 p
+done : (v : Verb) (text : List ℕ) (w : Response) → Succeeds v text → Does v text w → w.status ≡ status.Ok
+done verb.Encode text w s (encodes o h p q) = ap (λ w. w.status) q ∙ ok_when_parsed o s.0 (parses_once text o (Ok s.0) p s.1)
 done verb.Encode text w s (decodes o h l p q) = absurd (true≢false (ap is_encode h))
 done verb.Encode text w s (decodes_none h l q) = absurd (true≢false (ap is_encode h))
 done verb.Decode text w s (encodes o h p q) = absurd (true≢false (sym (ap is_encode h)))
@@ -66,13 +64,13 @@ same_text words c text left input b e r =
     let read : IsRead (Ok c) text input = subst (λ c. IsRead c text input) e r in
     subst (λ o. IfSome o (λ l. text ≡ l)) b (taken_by (reads c.verb) text input (all_read c.verb) read).0
 
-fine : (words : List Word) (c : Command) (left : List ℕ) (input : Input) (w : Response) → input.before ≡ Some left → command_of words ≡ Ok c → Succeeds ParsesTo c.verb left
-    → (Rose input.faults_before input.faults_after → ⊥) → Makes ParsesTo words input w → (w.status ≡ status.Ok) ⊎ (w.status ≡ status.Memory)
+fine : (words : List Word) (c : Command) (left : List ℕ) (input : Input) (w : Response) → input.before ≡ Some left → command_of words ≡ Ok c → Succeeds c.verb left
+    → (Rose input.faults_before input.faults_after → ⊥) → Makes words input w → (w.status ≡ status.Ok) ⊎ (w.status ≡ status.Memory)
 fine words c left input w b e s n (answers text r (usage k h u)) = absurd (ok_not_err c k (command_of words) e h)
 fine words c left input w b e s n (answers text r (does d h q)) =
     let same = same_text words c text left input b e r in
     let one = ok_is c d (command_of words) e h in
-    inl (done c.verb left w s (subst (λ t. Does ParsesTo c.verb t w) same (subst (λ d. Does ParsesTo d.verb text w) (sym one) q)))
+    inl (done c.verb left w s (subst (λ t. Does c.verb t w) same (subst (λ d. Does d.verb text w) (sym one) q)))
 fine words c left input w b e s n (cannot_read d h rose u) = absurd (n rose)
 fine words c left input w b e s n (lacks_memory u) = inr (ap (λ w. w.status) u)
 
@@ -83,22 +81,22 @@ fine_whole w out err s (inr u) p q (whole g h e) = inr (e ∙ u)
 fine_whole w out err s u p q (out_failed g h e) = absurd (p g.failed)
 fine_whole w out err s u p q (err_failed g h e) = absurd (q h.failed)
 
-pub completes : (words : List Word) (before after : Option (List ℕ)) (f g : ℕ) (out err : Output) (s : Status) → Runs ParsesTo words (reading before after f g) out err s
-    → IfSome before (λ text. (c : Command) → command_of words ≡ Ok c → Succeeds ParsesTo c.verb text → Works (reading before after f g) out err → (s ≡ status.Ok) ⊎ (s ≡ status.Memory))
+pub completes : (words : List Word) (before after : Option (List ℕ)) (f g : ℕ) (out err : Output) (s : Status) → Runs words (reading before after f g) out err s
+    → IfSome before (λ text. (c : Command) → command_of words ≡ Ok c → Succeeds c.verb text → Works (reading before after f g) out err → (s ≡ status.Ok) ⊎ (s ≡ status.Memory))
 completes words None after f g out err s r = tt
 completes words (Some left) after f g out err s r =
     λ c e p works.
     fine_whole r.written out err s (fine words c left (reading (Some left) after f g) r.written refl e p works.reads r.makes) works.writes works.tells r.delivers
 
 -- a run from what was made and how it was delivered
-pub ran : (words : List Word) (input : Input) (out err : Output) (w v : Response) (s : Status) → Makes ParsesTo words input w → w ≡ v → Delivers v out err s → Runs ParsesTo words input out err s
-ran words input out err w v s m e d = record { written = v; makes = subst (Makes ParsesTo words input) e m; delivers = d }
+pub ran : (words : List Word) (input : Input) (out err : Output) (w v : Response) (s : Status) → Makes words input w → w ≡ v → Delivers v out err s → Runs words input out err s
+ran words input out err w v s m e d = record { written = v; makes = subst (Makes words input) e m; delivers = d }
 
 -- the same, from the bytes of a reply
 pub ran_reply : (words : List Word) (input : Input) (out err : Output) (r : Result Reply AllocError) (x : Reply) (to_out to_err : List ℕ) (s : Status) → r ≡ Ok x
-    → IfOk r (λ x. Makes ParsesTo words input (written x)) → to_out ≡ x.out.items → to_err ≡ x.err.items
-    → Delivers (record { out = to_out; err = to_err; status = x.status }) out err s → Runs ParsesTo words input out err s
+    → IfOk r (λ x. Makes words input (written x)) → to_out ≡ x.out.items → to_err ≡ x.err.items
+    → Delivers (record { out = to_out; err = to_err; status = x.status }) out err s → Runs words input out err s
 ran_reply words input out err r x to_out to_err s e m o p d =
-    let made : Makes ParsesTo words input (written x) = subst (λ r. IfOk r (λ x. Makes ParsesTo words input (written x))) e m in
+    let made : Makes words input (written x) = subst (λ r. IfOk r (λ x. Makes words input (written x))) e m in
     let with : List ℕ → List ℕ → Response = λ a b. record { out = a; err = b; status = x.status } in
     ran words input out err (written x) (with to_out to_err) s made (ap (λ a. with a x.err.items) (sym o) ∙ ap (λ b. with to_out b) (sym p)) d

@@ -1,4 +1,3 @@
-pub mod Answering
 pub mod Inputs
 pub mod Replies
 pub mod Runs

@@ -3,7 +3,6 @@ use Rattle.std.specs.Prelude.{◌≡◌, List, Ok}
 use Rattle.dh_syntax.specs.declared.commands.Command.{Command}
 use Rattle.dh_syntax.specs.Command.Answer.{Response}
 use Rattle.dh_syntax.specs.Command.Words.{Word, command_of}
-use Rattle.dh_top.specs.Answering.{Parsing}
 use Rattle.dh_top.specs.Runs.{Input, Makes}
 use Rattle.dh_top.specs.declared.replies.Reply.{Reply}
 
@@ -11,5 +10,5 @@ abbrev pub written : Reply → Response
 written r = record { out = r.out.items; err = r.err.items; status = r.status }
 
 -- a command on its input
-abbrev pub Performs : Parsing → Command → Input → Response → Type 0
-Performs Parses c input w = (words : List Word) → command_of words ≡ Ok c → Makes Parses words input w
+abbrev pub Performs : Command → Input → Response → Type 0
+Performs c input w = (words : List Word) → command_of words ≡ Ok c → Makes words input w

@@ -6,8 +6,7 @@ use Rattle.dh_ports.specs.Counts.{Rose}
 use Rattle.dh_syntax.specs.declared.commands.Command.{Command}
 use Rattle.dh_syntax.specs.declared.statuses.Status.{Status}
 use Rattle.dh_syntax.specs.declared.statuses.Status.TheVariants as status
-use Rattle.dh_syntax.specs.Command.Answer.{Response, line, unread, without_memory}
-use Rattle.dh_top.specs.Answering.{Parsing, CommandAnswer}
+use Rattle.dh_syntax.specs.Command.Answer.{Response, CommandAnswer, line, unread, without_memory}
 use Rattle.dh_syntax.specs.Command.FaultLines.{read_line, write_line}
 use Rattle.dh_syntax.specs.Limits.{most_bytes}
 use Rattle.dh_syntax.specs.Command.Words.{Word, reads, command_of}
@@ -55,10 +54,10 @@ IsRead (Ok c) text input = MatchBool (reads c.verb) (IsTaken text input) (IsLeft
 IsRead (Err k) text input = IsLeft input
 
 -- What a run has to write: the answer to its words and its input, or one of the two faults that come before an answer.
-pub data Makes (Parses : Parsing) (words : List Word) (input : Input) (w : Response) : Type 0 where
-  answers : (text : List ℕ) → IsRead (command_of words) text input → CommandAnswer Parses words text w → Makes Parses words input w
-  cannot_read : (c : Command) → command_of words ≡ Ok c → Rose input.faults_before input.faults_after → w ≡ unread → Makes Parses words input w
-  lacks_memory : w ≡ without_memory → Makes Parses words input w
+pub data Makes (words : List Word) (input : Input) (w : Response) : Type 0 where
+  answers : (text : List ℕ) → IsRead (command_of words) text input → CommandAnswer words text w → Makes words input w
+  cannot_read : (c : Command) → command_of words ≡ Ok c → Rose input.faults_before input.faults_after → w ≡ unread → Makes words input w
+  lacks_memory : w ≡ without_memory → Makes words input w
 
 -- an output grew by just these bytes, and no write to it failed
 pub record Gains (o : Output) (bytes : List ℕ) : Type 0 where
@@ -85,9 +84,9 @@ pub data Delivers (w : Response) (out err : Output) (s : Status) : Type 0 where
   err_failed : Gains out w.out → Stops err w.err → s ≡ status.Write → Delivers w out err s
 
 -- a run of the command
-pub record Runs (Parses : Parsing) (words : List Word) (input : Input) (out err : Output) (s : Status) : Type 0 where
+pub record Runs (words : List Word) (input : Input) (out err : Output) (s : Status) : Type 0 where
   pub written : Response
-  pub makes : Makes Parses words input written
+  pub makes : Makes words input written
   pub delivers : Delivers written out err s
 
 -- the words are no command line

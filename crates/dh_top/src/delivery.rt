@@ -1,3 +1,5 @@
+//! Writing what was made: to an output in pieces until it is whole or a write fails, and what a run then answers.
+
 ghost use Rattle.std.specs.Prelude.{◌≡◌, ◌<◌, ◌≤◌, ◌+◌, ℕ, take, drop, length, IfOk, OnOk, OnErr};
 ghost use Rattle.std.specs.Io.KnownBytes.{Appends, Keeps};
 ghost use Rattle.dh_ports.specs.Counts.{Rose};

@@ -1,13 +1,11 @@
 //! The command `encode`: from a text to the binary form.
 
 ghost use Rattle.std.specs.Prelude.{◌≡◌, ◌≤◌, IfOk, Ok};
-ghost use Rattle.dh_parse.specs.SmallSpelling.{ParsesTo};
-ghost use Rattle.dh_syntax.specs.Command.Answer.{encoded};
+ghost use Rattle.dh_syntax.specs.Command.Answer.{Does, encoded};
 ghost use Rattle.dh_syntax.specs.Expressions.Arity.{IsWellFormed};
 ghost use Rattle.dh_syntax.specs.Expressions.Bridge.{term};
 ghost use Rattle.dh_syntax.specs.Expressions.Nesting.{nesting};
 ghost use Rattle.dh_syntax.specs.declared.verbs.Verb.TheVariants as verbs;
-ghost use Rattle.dh_top.specs.Answering.{Does};
 ghost use Rattle.dh_top.specs.Replies.{written};
 
 use crate::replies::{Reply, misspelling};
@@ -28,7 +26,7 @@ fn encoded_reply(alloc: Global, e: &Expr) -> Result<Reply, AllocError>
 
 /// The reply of `encode` to a text.
 pub(crate) fn encoding(alloc: Global, text: &[u8]) -> Result<Reply, AllocError>
-    ensures { IfOk result (λ r. Does ParsesTo verbs.Encode text.now (written r)) }
+    ensures { IfOk result (λ r. Does verbs.Encode text.now (written r)) }
 {
     match parse(alloc, text) {
         Ok(e) => encoded_reply(alloc, &e),

@@ -1,3 +1,5 @@
+//! Reading the input: in pieces, to its end or one byte past what a text may have.
+
 ghost use Rattle.std.specs.Prelude.{◌≡◌, ◌≢◌, ◌<◌, ◌≤◌, ◌++◌, ℕ, true, false, take, drop, length, vec_len, IfOk, IfErr, IfSome, IsTrue, OnOk, OnErr, MatchResult};
 ghost use Rattle.std.specs.Io.KnownBytes.{Consumes, IsAtEnd};
 ghost use Rattle.dh_ports.specs.Counts.{Rose};

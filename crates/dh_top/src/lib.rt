@@ -1,4 +1,11 @@
 //! The command: its words, its input, its answer and how that is written.
+//!
+//! `run_dhall` is the one call of the program. It reads the words, then the input, then makes the answer, and only then
+//! writes: so a refusal of an earlier step comes before one of a later step. Each step is a module with one exact clause.
+//!
+//! ```text
+//! let status = run_dhall(alloc, &words, &mut input, &mut out, &mut err);
+//! ```
 #![tactic(auto)]
 
 mod decoding;

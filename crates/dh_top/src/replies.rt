@@ -1,9 +1,7 @@
 //! What a run replies to its words and its input.
 
 ghost use Rattle.std.specs.Prelude.{◌≡◌, [], IfOk, map, string_bytes};
-ghost use Rattle.dh_parse.specs.SmallSpelling.{ParsesTo};
-ghost use Rattle.dh_syntax.specs.Command.Answer.{misused, unread, answer, misspelt};
-ghost use Rattle.dh_top.specs.Answering.{Does};
+ghost use Rattle.dh_syntax.specs.Command.Answer.{Does, misused, unread, answer, misspelt};
 ghost use Rattle.dh_top.specs.Replies.{written, Performs};
 ghost use Rattle.dh_top.specs.Runs.{Makes, reading};
 
@@ -73,7 +71,7 @@ fn unreadable(alloc: Global) -> Result<Reply, AllocError>
 
 /// The reply of a command to what was read of its input.
 fn answer(alloc: Global, verb: Verb, input: &[u8]) -> Result<Reply, AllocError>
-    ensures { IfOk result (λ r. Does ParsesTo verb input.now (written r)) }
+    ensures { IfOk result (λ r. Does verb input.now (written r)) }
 {
     match verb {
         Verb::Encode => encoding(alloc, input),
@@ -83,7 +81,7 @@ fn answer(alloc: Global, verb: Verb, input: &[u8]) -> Result<Reply, AllocError>
 
 /// Reads the input of a command, and replies to it.
 fn perform<I: Feed>(alloc: Global, command: Command, input: &mut I) -> Result<Reply, AllocError>
-    ensures { IfOk result (λ r. Performs ParsesTo command
+    ensures { IfOk result (λ r. Performs command
         (reading (I.left input.old) (I.left input.new) (I.faults input.old) (I.faults input.new)) (written r)) }
 {
     match read_input(alloc, input) {
@@ -99,7 +97,7 @@ pub(crate) fn reply_to<I: Feed>(
     words: &[String],
     input: &mut I,
 ) -> Result<Reply, AllocError>
-    ensures { IfOk result (λ r. Makes ParsesTo (map string_bytes words.now)
+    ensures { IfOk result (λ r. Makes (map string_bytes words.now)
         (reading (I.left input.old) (I.left input.new) (I.faults input.old) (I.faults input.new)) (written r)) }
 {
     match read_words(words) {

@@ -1,7 +1,8 @@
+//! One run of the command: its words, its input, its answer, and the delivery of it.
+
 ghost use Rattle.std.specs.Prelude.{◌≡◌, ◌<◌, ◌⊎◌, Ok, map, string_bytes, IfSome};
-ghost use Rattle.dh_parse.specs.SmallSpelling.{ParsesTo};
 ghost use Rattle.dh_ports.specs.Counts.{Rose};
-ghost use Rattle.dh_top.specs.Answering.{Succeeds};
+ghost use Rattle.dh_syntax.specs.Command.Answer.{Succeeds};
 ghost use Rattle.dh_syntax.specs.Command.Words.{command_of};
 ghost use Rattle.dh_syntax.specs.declared.commands.Command.{Command};
 ghost use Rattle.dh_top.specs.Runs.{Runs, AreMisused, ReadFailed, Works, reading, output};
@@ -22,7 +23,7 @@ pub fn run_dhall<I: Feed, O: Sink, E: Sink>(
     err: &mut E,
 ) -> Status
     // What is written, and the status, are those of the answer, or of a fault that came before it.
-    ensures runs { Runs ParsesTo (map string_bytes words.now)
+    ensures runs { Runs (map string_bytes words.now)
         (reading (I.left input.old) (I.left input.new) (I.faults input.old) (I.faults input.new))
         (output (O.written out.old) (O.written out.new) (O.faults out.old) (O.faults out.new))
         (output (E.written err.old) (E.written err.new) (E.faults err.old) (E.faults err.new)) result }
@@ -45,7 +46,7 @@ pub fn run_dhall<I: Feed, O: Sink, E: Sink>(
     ensures read { I.faults input.old < I.faults input.new → (result ≡ Status.Read) ⊎ (result ≡ Status.Write) ⊎ (result ≡ Status.Memory) }
 
     // A command on an input that it answers succeeds where no device fails, unless memory is wanting.
-    ensures completes { IfSome (I.left input.old) (λ text. (c : Command) → command_of (map string_bytes words.now) ≡ Ok c → Succeeds ParsesTo c.verb text
+    ensures completes { IfSome (I.left input.old) (λ text. (c : Command) → command_of (map string_bytes words.now) ≡ Ok c → Succeeds c.verb text
         → Works (reading (I.left input.old) (I.left input.new) (I.faults input.old) (I.faults input.new))
         (output (O.written out.old) (O.written out.new) (O.faults out.old) (O.faults out.new))
         (output (E.written err.old) (E.written err.new) (E.faults err.old) (E.faults err.new))

@@ -64,13 +64,13 @@ fn expect(rt: &(impl Abort + Eprint), ran: &Ran, out: &[u8], err: &str, status: 
 
 #[test]
 fn encodes_expressions(rt: HostRuntime) -> Result<(), Fail> {
-    let table: [(&str, &[u8]); 5] = [
+    let table: [(&str, &[u8]); 21] = [
         ("1 + 2", &[0x84, 3, 4, 0x82, 15, 1, 0x82, 15, 2]),
         ("True", &[0xF5]),
-        (
-            "(True && False) || True",
-            &[0x84, 3, 0, 0x84, 3, 1, 0xF5, 0xF4, 0xF5],
-        ),
+        ("-1", &[0x82, 16, 0x20]),
+        ("1 +2", &[0x83, 0, 0x82, 15, 1, 0x82, 16, 2]),
+        ("\u{3bb}(x : Bool) \u{2192} x", b"\x84\x01axdBool\x82ax\x00"),
+        ("\\(x : Bool) -> x", b"\x84\x01axdBool\x82ax\x00"),
         (
             "2 * 3 + 4",
             &[
@@ -78,8 +78,46 @@ fn encodes_expressions(rt: HostRuntime) -> Result<(), Fail> {
             ],
         ),
         (
-            " 18446744073709551615\r\n",
-            &[0x82, 15, 0x1B, 255, 255, 255, 255, 255, 255, 255, 255],
+            "340282366920938463463374607431768211455",
+            b"\x82\x0f\xc2\x50\xff\xff\xff\xff\xff\xff\xff\xff\xff\xff\xff\xff\xff\xff\xff\xff",
+        ),
+        // Arguments of one function stand in one array.
+        ("f x y", b"\x84\x00\x82af\x00\x82ax\x00\x82ay\x00"),
+        (
+            "if p then 1 else 2",
+            b"\x84\x0e\x82ap\x00\x82\x0f\x01\x82\x0f\x02",
+        ),
+        // The lets of one chain, too.
+        (
+            "let a = 1 let b : Natural = a in b",
+            b"\x88\x18\x19aa\xf6\x82\x0f\x01abgNatural\x82aa\x00\x82ab\x00",
+        ),
+        ("\"a${x}b\"", b"\x84\x12aa\x82ax\x00ab"),
+        ("[] : List Bool", b"\x82\x04dBool"),
+        // An entry that is a label alone, twice: `{ a = a ∧ a }`.
+        (
+            "{ a, a }",
+            b"\x82\x08\xa1aa\x84\x03\x08\x82aa\x00\x82aa\x00",
+        ),
+        (
+            "{ b = 1, a.x = 2, a.y = True }",
+            b"\x82\x08\xa2aa\x84\x03\x08\x82\x08\xa1ax\x82\x0f\x02\x82\x08\xa1ay\xf5ab\x82\x0f\x01",
+        ),
+        (
+            "x with a.b = 1",
+            b"\x84\x18\x1d\x82ax\x00\x82aaab\x82\x0f\x01",
+        ),
+        // Without brackets the annotation is that of `merge`.
+        ("merge x y : Bool", b"\x84\x06\x82ax\x00\x82ay\x00dBool"),
+        (
+            "(merge x y) : Bool",
+            b"\x83\x18\x1a\x83\x06\x82ax\x00\x82ay\x00dBool",
+        ),
+        ("r.{ b, a }", b"\x84\x0a\x82ar\x00aaab"),
+        ("< B : Bool | A >", b"\x82\x0b\xa2aA\xf6aBdBool"),
+        (
+            "./a as Text ? env:A",
+            b"\x84\x03\x0b\x85\x18\x18\xf6\x01\x03aa\x85\x18\x18\xf6\x00\x06aA",
         ),
     ];
     for (text, bytes) in table {
@@ -91,18 +129,29 @@ fn encodes_expressions(rt: HostRuntime) -> Result<(), Fail> {
 
 #[test]
 fn refuses_texts(rt: HostRuntime) -> Result<(), Fail> {
-    for text in [
-        "",
-        "1 2",
-        "1+2",
-        "1 +2",
-        "18446744073709551616",
-        "(1",
-        "truE",
-        "1 + \u{e9}",
-    ] {
+    let table: [(&str, &str); 15] = [
+        ("", "syntax at 0\n"),
+        ("1+2", "syntax at 1\n"),
+        ("(1", "syntax at 2\n"),
+        ("1.5", "left out of this profile at 0\n"),
+        (
+            "340282366920938463463374607431768211456",
+            "number too wide at 0\n",
+        ),
+        ("x@2147483648", "number too wide at 2\n"),
+        ("if@2147483648", "syntax at 2\n"),
+        ("{- x", "syntax at 0\n"),
+        ("\"\\q\"", "syntax at 1\n"),
+        ("{ a : Bool, a : Bool }", "syntax at 12\n"),
+        ("< A | A >", "syntax at 6\n"),
+        ("r.{ a, a }", "syntax at 7\n"),
+        ("f x with a = 1", "syntax at 4\n"),
+        ("a :: ./b", "syntax at 5\n"),
+        ("[]", "syntax at 2\n"),
+    ];
+    for (text, line) in table {
         let ran = run_in_memory(rt.alloc(), &["encode"], text.as_bytes(), NONE)?;
-        expect(&rt, &ran, &[], "syntax at 0\n", Status::Text);
+        expect(&rt, &ran, &[], line, Status::Text);
     }
     Ok(())
 }
@@ -197,7 +246,7 @@ fn tells_failed_devices(rt: HostRuntime) -> Result<(), Fail> {
         out: 0,
         err: 1,
     };
-    let ran_err = run_in_memory(rt.alloc(), &["encode"], b"x", err)?;
+    let ran_err = run_in_memory(rt.alloc(), &["encode"], b"(", err)?;
     expect(&rt, &ran_err, &[], "", Status::Write);
     Ok(())
 }
@@ -210,59 +259,12 @@ fn reads_to_the_limit(rt: HostRuntime) -> Result<(), Fail> {
     expect(&rt, &longest, &[0x82, 15, 1], "", Status::Ok);
     text.push(b' ')?;
     let longer = run_in_memory(rt.alloc(), &["encode"], text.as_slice(), NONE)?;
-    expect(&rt, &longer, &[], "syntax at 0\n", Status::Text);
-    Ok(())
-}
-
-/// Bytes that begin tokens, white space or nothing.
-const SOME_BYTES: &[u8] = b" \t\n\r017(+)*|&T_-\x7f\xc3";
-
-/// The numbers of at most two of the digits above, and their binary forms.
-const SHORT_NUMBERS: [(&[u8], &[u8]); 9] = [
-    (b"0", &[0x82, 15, 0]),
-    (b"1", &[0x82, 15, 1]),
-    (b"7", &[0x82, 15, 7]),
-    (b"10", &[0x82, 15, 10]),
-    (b"11", &[0x82, 15, 11]),
-    (b"17", &[0x82, 15, 17]),
-    (b"70", &[0x82, 15, 0x18, 70]),
-    (b"71", &[0x82, 15, 0x18, 71]),
-    (b"77", &[0x82, 15, 0x18, 77]),
-];
-
-/// The text without one blank before or behind it.
-fn without_blank(text: &[u8]) -> &[u8] {
-    match text {
-        [b' ' | b'\t' | b'\n', rest @ ..] => rest,
-        [rest @ .., b' ' | b'\t' | b'\n'] => rest,
-        _ => text,
-    }
-}
-
-/// A text of at most two bytes is refused unless it is a number, with a blank before or behind it.
-fn expect_of_short(
-    rt: &(impl Abort + Eprint + AllocGlobal),
-    text: &[u8],
-) -> Result<(), AllocError> {
-    let ran = run_in_memory(rt.alloc(), &["encode"], text, NONE)?;
-    for (number, bytes) in SHORT_NUMBERS {
-        if without_blank(text) == number {
-            expect(rt, &ran, bytes, "", Status::Ok);
-            return Ok(());
-        }
-    }
-    expect(rt, &ran, &[], "syntax at 0\n", Status::Text);
-    Ok(())
-}
-
-#[test]
-fn answers_every_text_of_up_to_two_bytes(rt: HostRuntime) -> Result<(), Fail> {
-    expect_of_short(&rt, &[])?;
-    for first in SOME_BYTES {
-        expect_of_short(&rt, &[*first])?;
-        for second in SOME_BYTES {
-            expect_of_short(&rt, &[*first, *second])?;
-        }
-    }
+    expect(
+        &rt,
+        &longer,
+        &[],
+        "larger than 1048576 bytes\n",
+        Status::Text,
+    );
     Ok(())
 }

@@ -1,4 +1,8 @@
 //! The `dhall` program: it hands the words and the standard streams to the command, and exits with its status.
+//!
+//! ```text
+//! printf '1 + 2' | dhall encode | dhall decode
+//! ```
 #![tactic(auto)]
 
 ghost use Rattle.std.specs.Prelude.{◌≡◌, ◌⊎◌};

@@ -1,3 +1,5 @@
+//! The standard streams as a feed and as sinks: interrupted calls are made again, failed ones are counted.
+
 ghost use Rattle.std.specs.Prelude.{ℕ, ◌≤◌, ◌<◌, length, IfSome};
 
 use dh_ports::{Feed, ReadError, Sink, WriteError};

@@ -1,11 +1,14 @@
 -- What the parts, places and frames of the program stand for.
-use Rattle.std.specs.Prelude.{ℕ, List, [], ◌∷◌, map, Option, Some, None, option_map}
+use Rattle.std.specs.Prelude.{ℕ, Box, List, [], ◌∷◌, map, Option, Some, None, option_map}
 use Rattle.std.specs.Borrow.{Bor}
+use Rattle.std.specs.declared.alloc.Global.{Global}
 use Rattle.std.specs.BTreeMap.{BTreeMap}
 use Rattle.dh_syntax.specs.Expressions.Bridge.{term}
 use Rattle.dh_syntax.specs.Expressions.Tree.{Name}
 use Rattle.dh_binary.specs.Machine as machine
 use Rattle.dh_binary.specs.Stubs.{Kept}
+use Rattle.dh_syntax.specs.declared.locations.Digest.{Digest}
+use Rattle.dh_decode.specs.Inside.Forms.{op_of}
 use Rattle.dh_decode.specs.declared.parts.Part.{Part}
 use Rattle.dh_decode.specs.declared.places.Binding.{Binding}
 use Rattle.dh_decode.specs.declared.places.Frame.{Frame}
@@ -18,7 +21,7 @@ use Rattle.dh_decode.specs.declared.places.Value.{Value}
 use Rattle.dh_decode.specs.declared.places.Value.TheVariants as values
 
 abbrev pub part_of : Part → Kept
-part_of p = record { expression = term p.expression; nests = p.nests }
+part_of p = record { expression = term p.held.value.expression; nests = p.held.value.nests }
 
 abbrev pub Text : Type 0
 Text = Bor (List ℕ)
@@ -32,6 +35,9 @@ entries_of es = map entry_of es
 abbrev pub names_of : List (Text × Unit {0}) → List Name
 names_of es = map (λ e. e.0.now) es
 
+abbrev pub digest_of : Option (Box Digest Global) → Option Digest
+digest_of d = option_map (λ b. b.value) d
+
 abbrev pub value_of : Value → machine.Value Kept
 value_of values.Nothing = machine.nothing
 value_of (values.Holds p) = machine.holds (part_of p)
@@ -41,7 +47,7 @@ value_of (values.Indexed n) = machine.indexed n
 value_of (values.Signed z) = machine.signed z
 value_of (values.Coded n k) = machine.coded n k
 value_of (values.By o) = machine.by o
-value_of (values.Hashed d) = machine.hashed d
+value_of (values.Hashed d) = machine.hashed (digest_of d)
 value_of (values.Taken how) = machine.taken how
 value_of (values.Queried q) = machine.queried (option_map (λ x. x.now) q)
 value_of (values.Path ks) = machine.names ks
@@ -51,7 +57,7 @@ abbrev pub binding_of : Binding → machine.Binding Kept
 binding_of b = record { name = b.name.now; type = option_map part_of b.annotation; value = part_of b.value }
 
 abbrev pub start_of : Start → machine.Start
-start_of s = record { digest = s.digest; mode = s.mode }
+start_of s = record { digest = digest_of s.digest; mode = s.mode }
 
 abbrev pub kind_of : RowKind → machine.RowKind
 kind_of kinds.Types = machine.types
@@ -62,12 +68,12 @@ abbrev pub place_of : Place → machine.Place Kept
 place_of places.First = machine.first
 place_of (places.Finished t) = machine.finished (part_of t)
 place_of (places.Applying f) = machine.applying (option_map part_of f)
-place_of (places.Operands op es) = machine.operands op (map part_of es)
-place_of (places.Binder op) = machine.binder op
-place_of (places.Quantify op x a) = machine.quantify op x.now (option_map part_of a)
+place_of (places.Operands f es) = machine.operands (op_of f) (map part_of es)
+place_of (places.Binder f) = machine.binder (op_of f)
+place_of (places.Quantify f x a) = machine.quantify (op_of f) x.now (option_map part_of a)
 place_of places.Operating = machine.operating
 place_of places.Emptied = machine.emptied
-place_of (places.Skipping op) = machine.skipping op
+place_of (places.Skipping f) = machine.skipping (op_of f)
 place_of (places.Rowing k) = machine.rowing (kind_of k)
 place_of places.Selecting = machine.selecting
 place_of (places.Selected t) = machine.selected (part_of t)
@@ -79,7 +85,7 @@ place_of places.SignedNumeral = machine.signed_numeral
 place_of (places.Piece ps es) = machine.piece ps (map part_of es)
 place_of (places.Between ps es) = machine.between ps (map part_of es)
 place_of places.Importing = machine.importing
-place_of (places.Moding d) = machine.moding d
+place_of (places.Moding d) = machine.moding (digest_of d)
 place_of (places.Locating h) = machine.locating (start_of h)
 place_of (places.Components h k cs) = machine.components (start_of h) k cs
 place_of (places.Headers h s) = machine.headers (start_of h) s

@@ -84,4 +84,4 @@ calls (suc n) = app (var x 0) (calls n)
 -- `let x = x (x .. y) in 1` with 501 times x: the value has a type, and then it nests 501 deep in its normal form
 deep : IsTypeFault context 0 (let_in x (calls 501) one) fault.Deep
 unfolding alpha
-deep = (503, inr (natural_type, (501, 0, (10, 0, refl)), inl (inr (calls 501, (1003, 0, (502, refl)), refl))))
+deep = (503, inr (natural_type, (501, 0, (10, 0, refl)), inl (inr (inr (calls 501, (1003, 0, (502, refl)), refl)))))

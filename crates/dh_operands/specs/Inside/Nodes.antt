@@ -24,7 +24,7 @@ abbrev pub and_parts : Gathered → Parts → Gathered
 and_parts g [] = g
 and_parts g (p ∷ ps) = and_parts (and_part g p.0 p.1) ps
 
-abbrev pub gathered_of : {N S K : Type 0} → Gathering N S K → Gathered
+abbrev pub gathered_of : Gathering → Gathered
 gathered_of g = record { parts = row_of g.kids; nests = g.nests }
 
 -- `merge` or `toMap` with an annotation, where it is one of them without
@@ -32,8 +32,3 @@ abbrev pub with_annotation : Op → Option Op
 with_annotation (ops.Merge false) = Some (ops.Merge true)
 with_annotation (ops.ToMap false) = Some (ops.ToMap true)
 with_annotation _ = None
-
--- what stands under a label, with what stood there before
-abbrev pub with_old : {X : Type 0} → (X → X → X) → Option X → X → X
-with_old join None x = x
-with_old join (Some old) x = join old x

@@ -38,7 +38,7 @@ decode_fault_line decode.Memory = codes "out of memory"
 abbrev pub norm_fault_line : NormFault → List ℕ
 norm_fault_line norm.Wide = codes "number or literal too wide"
 norm_fault_line norm.Spent = codes "budget of 16777216 spent"
-norm_fault_line norm.Deep = codes "deeper than 1000"
+norm_fault_line norm.Deep = codes "too deep"
 norm_fault_line norm.Memory = codes "out of memory"
 
 -- the place of a part: the numbers of the parts on the way from the root
@@ -55,7 +55,7 @@ abbrev pub type_fault_line : TypeFault → List ℕ
 type_fault_line (type.Ill ill) = ill_line ill
 type_fault_line type.Wide = codes "number or literal too wide"
 type_fault_line type.Spent = codes "budget of 16777216 spent"
-type_fault_line type.Deep = codes "deeper than 1000"
+type_fault_line type.Deep = codes "too deep"
 type_fault_line type.Memory = codes "out of memory"
 
 -- the first word that is wrong, by its number from 1

@@ -4,7 +4,7 @@ use Rattle.std.proofs.Common.{ap, sym, subst as along}
 use Rattle.std.proofs.Math.Path.{fun_ext}
 use Rattle.dh_syntax.specs.Expressions.Nesting.{nesting}
 use Rattle.dh_syntax.specs.Expressions.Tree.{Name, Var, Term}
-use Rattle.dh_syntax.specs.Limits.{most_height, purse_aside}
+use Rattle.dh_syntax.specs.Limits.{most_reached, purse_aside}
 use Rattle.dh_syntax.specs.Names.Nameless.{Ref, Core, core_below, to_core, sub, first}
 use Rattle.dh_syntax.specs.Normalising.Heads.{Answer}
 use Rattle.dh_syntax.specs.Normalising.Named.{names}
@@ -84,7 +84,7 @@ kept_typings normal more kept n k depth c e d s m units = may_answer normal more
 
 pub kept_belows : KeptBelow
 kept_belows depth y t c v k r =
-    kept-below (λ b. option_map to_core (type_of b)) (λ x. x) core_types-closed (codes "x") (codes "a") (codes "as") (λ d. nat_lt most_height (nesting d)) depth y t c v k r
+    kept-below (λ b. option_map to_core (type_of b)) (λ x. x) core_types-closed (codes "x") (codes "a") (codes "as") (λ d. nat_lt most_reached (nesting d)) depth y t c v k r
 
 pub kept_deepers : KeptDeeper
 kept_deepers depth more c v k r = along (λ z. IsKept cores (typing core_scopes z c v) k) (plus-is depth more) (kept-deeper core_scopes cores depth more c v k r)

@@ -1,12 +1,12 @@
 -- The laws of typing in the words of the definitions: what is shown of nameless forms holds of expressions with names, and
 -- what is typed in a context is typed, shifted, in a longer one.
-use Rattle.std.specs.Prelude.{◌≡◌, ℕ, suc, false, nat_lt, IsTrue, List, option_map, codes, refl}
+use Rattle.std.specs.Prelude.{◌≡◌, ℕ, suc, ◌+◌, false, nat_lt, IsTrue, List, option_map, codes, refl}
 use Rattle.std.proofs.Common.{ap, sym, ◌∙◌, inl, inr, subst as along}
 use Rattle.dh_syntax.specs.Normalising.Heads.{Whole, run}
 use Rattle.dh_syntax.specs.Typing.Inference.{Has, Inference, IsOver, ComesTo, IsRefused, MeetsNormal, IsSpentAside, judged_within}
 use Rattle.dh_syntax.specs.Names.Alpha.{same}
 use Rattle.dh_syntax.specs.Typing.BuiltinTypes.{type_of}
-use Rattle.dh_syntax.specs.Limits.{most_height, most_nesting, purse_aside}
+use Rattle.dh_syntax.specs.Limits.{most_height, most_reached, most_nesting, purse_aside}
 use Rattle.dh_syntax.specs.Normalising.Named.{binders, names}
 use Rattle.dh_syntax.specs.Typing.NamedTyping as named
 use Rattle.dh_syntax.specs.Names.Nameless.{Ref, going_nameless, core_below, to_core, ren, Core}
@@ -83,21 +83,29 @@ plain-alike : Alike false names cores Rel
 plain-alike =
     trees-alike going_nameless staying binders (nameless_binders (codes "x") (codes "a") (codes "as")) (nameless_binders (codes "x") (codes "a") (codes "as")) binders-core
     (binders-staying (nameless_binders (codes "x") (codes "a") (codes "as"))) false same nameless_eq
-    (λ e. nat_lt most_height (nesting e)) (λ e. nat_lt most_height (nesting e)) core_tests
-    (λ c e f p. tested-equal _ _ (ap (nat_lt most_height) (sym (nesting-moved going_nameless c.0 e) ∙ ap nesting (p ∙ moved-staying f))))
+    (λ e. nat_lt most_reached (nesting e)) (λ e. nat_lt most_reached (nesting e)) core_tests
+    (λ c e f p. tested-equal _ _ (ap (nat_lt most_reached) (sym (nesting-moved going_nameless c.0 e) ∙ ap nesting (p ∙ moved-staying f))))
 
-plain-runs : (units : ℕ) (ys : List Name) (d : Core) (e : Term) → d ≡ core_below ys e
-    → run cores most_height Whole units d ≡ answer_map (core_below ys) (run names most_height Whole units e)
-plain-runs units ys d e p =
-    ap (λ u. run cores most_height Whole u d) (sym (plus-zero units))
-    ∙ answer-of ys _ _ (run-alike 0 false false (λ z. refl) names cores Rel plain-alike most_height most_height (reaches-itself false most_height) (ys, tt) Whole units e d (sym p ∙ sym (moved-staying d)))
+ended-runs : (heights units : ℕ) (ys : List Name) (d : Core) (e : Term) → d ≡ core_below ys e
+    → run cores heights Whole units d ≡ answer_map (core_below ys) (run names heights Whole units e)
+ended-runs heights units ys d e p =
+    ap (λ u. run cores heights Whole u d) (sym (plus-zero units))
+    ∙ answer-of ys _ _ (run-alike 0 false false (λ z. refl) names cores Rel plain-alike heights heights (reaches-itself false heights) (ys, tt) Whole units e d (sym p ∙ sym (moved-staying d)))
 
 pub deep-named : (zs : List Name) (d : Core) (f : Term) → d ≡ core_below zs f → IsDeepLicensed cores nesting d → IsDeepLicensed names nesting f
 deep-named zs d f p (inl (units, left, r)) =
-    inl (units, left, deep-before (core_below zs) (run names most_height Whole units f) left (sym (plain-runs units zs d f p) ∙ r))
-deep-named zs d f p (inr (g, (units, left, (h, r)), n)) =
+    inl (units, left, deep-before (core_below zs) (run (endless names) most_height Whole units f) left (sym (core-runs most_height zs units d f p) ∙ r))
+deep-named zs d f p (inr (inl (units, left, enough, r))) =
+    inr (inl (
+      units,
+      left,
+      enough,
+      λ more.
+          deep-before (core_below zs) (run names (more + enough) Whole units f) left (sym (ended-runs (more + enough) units zs d f p) ∙ r more),
+    ))
+deep-named zs d f p (inr (inr (g, (units, left, (h, r)), n))) =
     let (v, a, b) = found-before (core_below zs) (run (endless names) h Whole units f) g left (sym (core-runs h zs units d f p) ∙ r) in
-    inr (v, (units, left, (h, a)), along (λ z. IsTrue (nat_lt most_nesting z)) (ap nesting b ∙ nesting-moved going_nameless zs v) n)
+    inr (inr (v, (units, left, (h, a)), along (λ z. IsTrue (nat_lt most_nesting z)) (ap nesting b ∙ nesting-moved going_nameless zs v) n))
 
 pub named_deep : (depth : ℕ) (ys : List Name) (c' : Context Ref Name) (c : Context Var Name) (e : Term) → IsCored ys c' c
     → MeetsNormal cores (IsDeepLicensed cores nesting) (typing core_scopes depth c' (core_below ys e)) → MeetsNormal names (IsDeepLicensed names nesting) (typing named.scopes depth c e)
@@ -109,4 +117,4 @@ pub core_weakening : (heights purse depth : ℕ) (y : Name) (t : Core) (c : Cont
     → judged_within cores heights purse units (typing core_scopes depth (enter core_scopes y t c) (ren (λ k. suc k) e))
     ≡ judgment_map (ren (λ k. suc k)) (judged_within cores heights purse units (typing core_scopes depth c e))
 core_weakening heights purse depth y t c units e =
-    below-judged (λ b. option_map to_core (type_of b)) (λ x. x) core_types-closed (codes "x") (codes "a") (codes "as") (λ d. nat_lt most_height (nesting d)) heights purse depth y t c units e
+    below-judged (λ b. option_map to_core (type_of b)) (λ x. x) core_types-closed (codes "x") (codes "a") (codes "as") (λ d. nat_lt most_reached (nesting d)) heights purse depth y t c units e

@@ -4,7 +4,7 @@ use Rattle.std.proofs.Common.{ap, sym, ◌∙◌, inl, inr}
 use Rattle.dh_syntax.specs.declared.faults.NormFault.TheVariants as fault
 use Rattle.dh_syntax.specs.Expressions.Nesting.{nesting}
 use Rattle.dh_syntax.specs.Expressions.Tree.{Name, Term}
-use Rattle.dh_syntax.specs.Limits.{most_height}
+use Rattle.dh_syntax.specs.Limits.{most_reached}
 use Rattle.dh_syntax.specs.Names.Nameless.{core_below, term_below, bare, ren}
 use Rattle.dh_syntax.specs.Names.Subst.{shift_up}
 use Rattle.dh_syntax.specs.Normalising.NamelessRuns.{cores, bares}
@@ -38,7 +38,7 @@ core_weakenings heights purse depth y t c units e = core_weakening heights purse
 
 pub bare_weakenings : NamelessWeakening bare_scopes bares
 bare_weakenings heights purse depth y t c units e =
-    below-judged (λ b. option_map bare (type_of b)) (λ x. tt) bare_types-closed tt tt tt (λ d. nat_lt most_height (nesting d)) heights purse depth y t c units e
+    below-judged (λ b. option_map bare (type_of b)) (λ x. tt) bare_types-closed tt tt tt (λ d. nat_lt most_reached (nesting d)) heights purse depth y t c units e
 
 -- shifting and then going nameless is going nameless and then shifting
 shifted-core : (x : Name) (ys : List Name) (j : Judgment Term)

@@ -4,4 +4,4 @@ use Rattle.dh_decode.proofs.EntryLaws.{can_put}
 use Rattle.dh_decode.proofs.entries.has_entry.Goals as goal
 
 pub returns-clause-fresh : goal.returns-clause-fresh
-returns-clause-fresh c = can_put (λ e. e.name) entry_of (λ e. refl) c.args.name None c.args.entries.now.entries c.contains_key.result c.len-count.ensures.ordered c.contains_key.ensures
+returns-clause-fresh c = can_put (λ e. e.name) entry_of (λ e. refl) c.args.name None c.args.entries.now.entries c.contains.result c.len-count.ensures.ordered c.contains.ensures

@@ -1,7 +1,7 @@
-use Rattle.std.proofs.Common.{◌∙◌, arith, [], ◌∷◌}
+use Rattle.std.proofs.Common.{arith, [], ◌∷◌}
 use Rattle.dh_decode.specs.Inside.Views.{part_of}
-use Rattle.dh_decode.proofs.NodeParts.{one_part, kept_node}
+use Rattle.dh_decode.proofs.NodeParts.{made_as, one_part, kept_node}
 use Rattle.dh_decode.proofs.nodes.one.Goals as goal
 
 pub returns : goal.returns
-returns c = c.kept.ensures ∙ kept_node c.args.op (part_of c.args.part ∷ []) _ _ (one_part _ _ _ _ c.new-kids.ensures c.in_ok-push.ensures.ok) (omega arith)
+returns c = made_as c.kept.result _ _ c.kept.ensures (kept_node c.args.op (part_of c.args.part ∷ []) _ _ (one_part _ _ _ _ c.in_ok-kids.ensures c.in_ok-put.ensures) (omega arith))

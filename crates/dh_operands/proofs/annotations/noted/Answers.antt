@@ -10,7 +10,7 @@ use Rattle.dh_operands.proofs.NodeParts.{noted, not_noted}
 use Rattle.dh_operands.proofs.annotations.noted.Goals as goal
 
 pub returns-in_ok-push-in-Some : goal.returns-in_ok-push-in-Some
-returns-in_ok-push-in-Some g c =
+returns-in_ok-push-in-Some c =
     let p = part_of c.args.value in
     let a = part_of c.args.annotation in
     let o = c.in-Some.annotated in
@@ -19,7 +19,7 @@ returns-in_ok-push-in-Some g c =
     ∙ ap (λ t. note_on t p a) (sym (ap term c.in-Node.is ∙ term-Node _ _))
 
 pub returns-in-None : goal.returns-in-None
-returns-in-None g c =
+returns-in-None c =
     let p = part_of c.args.value in
     let a = part_of c.args.annotation in
     let op = c.in-Node.op in
@@ -29,7 +29,7 @@ returns-in-None g c =
     c.two.ensures
 
 pub returns-in-Var : goal.returns-in-Var
-returns-in-Var g c =
+returns-in-Var c =
     let p = part_of c.args.value in
     let a = part_of c.args.annotation in
     IfOk-weaker c.two-in-Var.result _ _

@@ -3,4 +3,4 @@ use Rattle.dh_operands.proofs.NodeParts.{no_part}
 use Rattle.dh_operands.proofs.gathering.stub.Goals as goal
 
 pub returns : goal.returns
-returns g c = ap (λ t. record { expression = t; nests = 501 }) (no_part _ _ c.new.ensures)
+returns c = ap (λ t. record { expression = t; nests = 501 }) (no_part _ _ c.new.ensures)

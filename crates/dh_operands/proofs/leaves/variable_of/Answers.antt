@@ -4,4 +4,4 @@ use Rattle.dh_grammar.specs.Stubs.{at, kept}
 use Rattle.dh_operands.proofs.leaves.variable_of.Goals as goal
 
 pub returns : goal.returns
-returns g c = ap (at 17) (c.kept.ensures ∙ ap (λ t. kept t 0) (term-Var _ _))
+returns c = ap (at 17) (c.kept.ensures ∙ ap (λ t. kept t 0) (term-Var _ _))

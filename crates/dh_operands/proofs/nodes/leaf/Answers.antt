@@ -4,4 +4,4 @@ use Rattle.dh_operands.proofs.NodeParts.{no_part}
 use Rattle.dh_operands.proofs.nodes.leaf.Goals as goal
 
 pub returns : goal.returns
-returns g c = c.kept.ensures ∙ ap (λ t. kept t 0) (no_part _ _ c.new.ensures)
+returns c = c.kept.ensures ∙ ap (λ t. kept t 0) (no_part _ _ c.new.ensures)

@@ -6,6 +6,6 @@ use Rattle.dh_operands.proofs.NodeParts.{finished}
 use Rattle.dh_operands.proofs.nodes.several.Goals as goal
 
 pub returns : goal.returns
-returns g c =
+returns c =
     let ps = unbound (map part_of c.args.parts.items) in
     c.finish.ensures ∙ finished c.args.op ps _ (c.in_ok-push_all.ensures ∙ ap (λ h. and_parts h ps) c.new-gathered.ensures)

@@ -5,7 +5,7 @@ use Rattle.dh_operands.proofs.NodeParts.{finished}
 use Rattle.dh_operands.proofs.nodes.three.Goals as goal
 
 pub returns : goal.returns
-returns g c =
+returns c =
     let p = part_of c.args.first in
     let q = part_of c.args.second in
     let r = part_of c.args.third in

@@ -5,7 +5,7 @@ use Rattle.dh_operands.proofs.NodeParts.{finished}
 use Rattle.dh_operands.proofs.nodes.two.Goals as goal
 
 pub returns : goal.returns
-returns g c =
+returns c =
     let p = part_of c.args.left in
     let q = part_of c.args.right in
     c.finish.ensures

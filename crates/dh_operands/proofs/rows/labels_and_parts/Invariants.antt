@@ -7,7 +7,7 @@ use Rattle.dh_operands.specs.Rows.{rows_of}
 use Rattle.dh_operands.proofs.rows.labels_and_parts.Given as goal
 
 abbrev pub invariant-loop-label : goal.invariant-loop-label
-invariant-loop-label g l =
+invariant-loop-label l =
     (l.labels ++ names (rows_of (into_iter_items l.label-iterator)) ≡ names (rows_of (into_iter_items l.initial.label-iterator)))
     × (and_parts (gathered_of l.parts) (unbound (values (rows_of (into_iter_items l.label-iterator)))) ≡ and_parts nothing (unbound (values (rows_of (into_iter_items l.initial.label-iterator)))))
     × (into_iter_len l.label-iterator ≡ length (into_iter_items l.label-iterator))

@@ -4,13 +4,13 @@ use Rattle.dh_syntax.specs.declared.expressions.Op.TheVariants as ops
 use Rattle.dh_grammar.specs.Stubs.{at, node, alternatives_in, types_in, is_typed}
 use Rattle.dh_operands.specs.Inside.Nodes.{gathered_of, nothing, and_parts}
 use Rattle.dh_operands.specs.Operands.{note_of}
-use Rattle.dh_operands.proofs.Loops.{nothing_left, one_taken, carried}
+use Rattle.dh_making.proofs.Loops.{nothing_left, one_taken, carried}
 use Rattle.dh_operands.proofs.NodeParts.{finished}
 use Rattle.dh_operands.proofs.SumRows.{rows_of, typed-is_some, and_note}
 use Rattle.dh_operands.proofs.alternatives.Alternatives.union.Goals as goal
 
 pub loop-label-preserved : goal.loop-label-preserved
-loop-label-preserved g c =
+loop-label-preserved c =
     let loop = c.loop-label in
     let rest = rows_of (into_iter_items c.next.new.self) in
     let note = note_of c.in-Some.annotation in (
@@ -23,7 +23,7 @@ loop-label-preserved g c =
     )
 
 pub returns : goal.returns
-returns g c =
+returns c =
     let loop = c.loop-label in
     let all = rows_of c.args.self.by_label in
     let none = nothing_left _ (sym loop.invariant.2 ∙ c.in-None.ensures.steps.0) in

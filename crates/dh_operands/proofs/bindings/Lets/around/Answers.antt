@@ -5,12 +5,12 @@ use Rattle.dh_operands.proofs.LetLists.{last_bound}
 use Rattle.dh_operands.proofs.bindings.Lets.around.Goals as goal
 
 pub loop-binding-preserved : goal.loop-binding-preserved
-loop-binding-preserved g c =
+loop-binding-preserved c =
     let loop = c.loop-binding in
     last_bound loop.bindings.items c.pop.new.self.items c.in-Some.binding (part_of loop.part) (part_of c.in_ok-part.part) c.in-Some.ensures.items c.in_ok-part.ensures ∙ loop.invariant
 
 pub returns : goal.returns
-returns g c =
+returns c =
     let loop = c.loop-binding in
     let none : loop.bindings.items ≡ [] = search rules in
     ap (at 0)

@@ -4,4 +4,4 @@ use Rattle.dh_grammar.specs.Stubs.{kept}
 use Rattle.dh_operands.proofs.gathering.Gathering.finish.Goals as goal
 
 pub returns : goal.returns
-returns g c = c.kept.ensures ∙ ap (λ t. kept t c.args.self.nests) (term-Node _ _)
+returns c = c.kept.ensures ∙ ap (λ t. kept t c.args.self.nests) (term-Node _ _)

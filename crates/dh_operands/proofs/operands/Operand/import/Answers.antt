@@ -6,7 +6,7 @@ use Rattle.dh_operands.proofs.NodeParts.{no_part}
 use Rattle.dh_operands.proofs.operands.Operand.import.Goals as goal
 
 pub returns : goal.returns
-returns g c =
+returns c =
     ap (at 15)
     (c.kept.ensures
     ∙ ap (λ t. kept t 0)

@@ -6,7 +6,7 @@ use Rattle.dh_grammar.specs.Stubs.{kept}
 use Rattle.dh_operands.proofs.rows.Entry.alone.Goals as goal
 
 pub returns : goal.returns
-returns g c =
+returns c =
     ap (λ p. (c.in_ok-label.label, p))
-    (c.kept-part.ensures ∙ ap (λ t. kept t 0) (term-Var _ 0 ∙ ap (λ x. Leaf (record { name = x; index = 0 })) c.in_ok-copied.ensures))
+    (c.kept-value.ensures ∙ ap (λ t. kept t 0) (term-Var _ 0 ∙ ap (λ x. Leaf (record { name = x; index = 0 })) c.in_ok-copied.ensures))
     ∙ ap (λ x. (x, kept (variable_term x None) 0)) c.in_ok-label.ensures

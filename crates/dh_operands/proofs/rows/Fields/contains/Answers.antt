@@ -2,11 +2,11 @@ use Rattle.std.proofs.Common.{◌∙◌, ap, sym}
 use Rattle.std.proofs.lemmas.Result.{IfOk-weaker}
 use Rattle.dh_syntax.specs.Text.Derivation.{key_label}
 use Rattle.dh_syntax.specs.Text.Derived.{among}
-use Rattle.dh_operands.specs.Rows.{placed_part_of}
-use Rattle.dh_operands.specs.Words.{key_of}
-use Rattle.dh_operands.proofs.SortedRows.{names-seen}
+use Rattle.dh_operands.specs.Operands.{part_of}
+use Rattle.dh_making.specs.Words.{key_of}
+use Rattle.dh_making.proofs.SortedRows.{names-seen}
 use Rattle.dh_operands.proofs.rows.Fields.contains.Goals as goal
 
 pub returns : goal.returns
-returns g c =
-    IfOk-weaker c.contains_key.result _ _ (λ b h. h ∙ ap (among (key_label (key_of c.args.key.now))) (sym (names-seen placed_part_of c.args.self.now.rows))) c.contains_key.ensures
+returns c =
+    IfOk-weaker c.contains_key.result _ _ (λ b h. h ∙ ap (among (key_label (key_of c.args.key.now))) (sym (names-seen part_of c.args.self.now.rows))) c.contains_key.ensures

@@ -8,7 +8,7 @@ use Rattle.dh_operands.proofs.NodeParts.{finished}
 use Rattle.dh_operands.proofs.rows.Fields.record_type.Goals as goal
 
 pub returns : goal.returns
-returns g c =
+returns c =
     let parts = unbound (values (rows_of c.args.self.rows)) in
     ap (at 17)
     (c.finish.ensures ∙ finished (ops.RecordType c.in_ok-labels.labels) parts (gathered_of c.in_ok-labels.parts) c.in_ok-labels.ensures.parts

@@ -1,0 +1,8 @@
+pub mod Building
+pub mod Edges
+pub mod ImportKeys
+pub mod Nexting
+pub mod Numbers
+pub mod Skipping
+pub mod Visiting
+pub mod Wanting

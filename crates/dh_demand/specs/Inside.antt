@@ -1,0 +1,6 @@
+-- Words of private clauses alone: what a reader must believe stands beside this folder.
+pub mod Parts
+pub mod Going
+pub mod Walking
+pub mod Marking
+pub mod Building

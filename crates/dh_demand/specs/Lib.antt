@@ -1,0 +1,6 @@
+pub mod Results
+pub mod Scans
+pub mod Nexts
+pub mod Values
+pub mod Wants
+pub mod Inside

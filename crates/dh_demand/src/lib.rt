@@ -1,0 +1,38 @@
+//! Which import of a text a walk asks next, which it wants, and the text with each value in its place.
+//!
+//! A [`Scan`] is an expression with one [`Edge`] for each of its imports: the number of the import's key and whether the import
+//! is sane. `import_keys` lists the keys of the imports. The keys and their outcomes stand behind [`Results`]. Each call is one pass over the imports, and contracts speak of
+//! the walk, its wants and its value as the definitions have them.
+//!
+//! ```text
+//! match next(&scan, parent, &results) {
+//!     Next::Need(key) => ..,                                  // the first key without an outcome
+//!     Next::Fault(edge) => ..,                                // the import that decides
+//!     Next::Ready => assemble(alloc, &scan, &results)?,
+//! }
+//! ```
+#![tactic(auto)]
+
+mod assembling;
+mod ends;
+mod key_lists;
+mod marks;
+mod nexts;
+mod parts;
+mod results;
+mod scans;
+mod skips;
+mod visits;
+mod wants;
+
+pub use assembling::assemble;
+pub use ends::Next;
+pub use key_lists::import_keys;
+pub use marks::Marks;
+pub use nexts::next;
+pub use results::Results;
+pub use scans::{Edge, Edges, Scan};
+pub use wants::wanted;
+
+#[cfg(test)]
+mod tests;

@@ -1,0 +1,86 @@
+//! Tests: the keys of a text's imports, and a text without imports over results that know no key.
+
+use super::*;
+use dh_paths::loc_text;
+use dh_syntax::{Comps, Expr, Import, Key, Kid, Loc, Many, Mode, Op, Outcome, Piece};
+use std::alloc::{AllocError, Global};
+use std::test::Fail;
+
+/// Results that know no key.
+#[derive(Drop)]
+struct Nothing;
+
+impl Results for Nothing {
+    ghost use Rattle.std.specs.Prelude.{[]};
+
+    ghost rows = { λ _. [] };
+
+    fn outcome(&self, _key: u32) -> Option<&Outcome> {
+        unreachable!()
+    }
+
+    fn key(&self, _key: u32) -> &Key {
+        unreachable!()
+    }
+}
+
+fn path(alloc: Global, folder: &str, file: &str) -> Result<Comps, AllocError> {
+    let mut comps = Many::new(alloc);
+    if !folder.is_empty() {
+        comps.push(Piece::new(alloc, folder)?)?;
+    }
+    comps.push(Piece::new(alloc, file)?)?;
+    Ok(comps)
+}
+
+fn import(alloc: Global, loc: Loc, mode: Mode) -> Kid {
+    let import = Import {
+        loc,
+        mode,
+        digest: None,
+    };
+    Kid {
+        binder: None,
+        body: Expr::Node(Op::Import(import), Many::new(alloc)),
+    }
+}
+
+#[test]
+fn keys_stand_in_the_order_of_imports(rt: HostRuntime) -> Result<(), Fail> {
+    let alloc = rt.alloc();
+    let mut kids = Many::new(alloc);
+    kids.push(import(alloc, Loc::Here(path(alloc, "", "a")?), Mode::Code))?;
+    kids.push(import(alloc, Loc::Parent(path(alloc, "", "b")?), Mode::Text))?;
+    kids.push(import(alloc, Loc::Missing, Mode::Code))?;
+    let list = Expr::Node(Op::List, kids);
+    let parent = Loc::Abs(path(alloc, "folder", "text")?);
+    let keys = import_keys(alloc, &list, Some(&parent))?;
+    let mut texts = String::new(alloc);
+    for key in keys.as_slice() {
+        texts.push_str(loc_text(alloc, &key.loc)?.as_str())?;
+        texts.push_str(if key.mode == Mode::Text {
+            " as Text\n"
+        } else {
+            "\n"
+        })?;
+    }
+    assert_eq!(rt; texts.as_str(), "/folder/a\n/b as Text\nmissing\n");
+    Ok(())
+}
+
+#[test]
+fn a_text_without_imports_is_ready(rt: HostRuntime) -> Result<(), Fail> {
+    let alloc = rt.alloc();
+    let scan = Scan {
+        expr: Expr::Node(Op::Nat(3), Many::new(alloc)),
+        edges: Many::new(alloc),
+    };
+    let results = Nothing;
+    assert!(rt; matches!(next(&scan, None, &results), Next::Ready));
+    let mut marks = Marks::of(vec![in alloc; false; 2]?);
+    wanted(&scan, None, &results, &mut marks);
+    assert!(rt; !marks.is_set(1));
+    let value = assemble(alloc, &scan, &results)?;
+    assert!(rt; matches!(&value, Expr::Node(Op::Nat(3), _)));
+    Ok(())
+}

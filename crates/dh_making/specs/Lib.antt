@@ -1,0 +1,3 @@
+pub mod Projections
+pub mod Views
+pub mod Words

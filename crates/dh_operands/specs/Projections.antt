@@ -1,7 +1,0 @@
--- What the labels of a projection stand for.
-use Rattle.dh_syntax.specs.Text.Derivation.{Keys}
-use Rattle.dh_operands.specs.Words.{keys_of}
-use Rattle.dh_operands.specs.declared.projections.Projection.{Projection}
-
-abbrev pub projection_of : Projection → Keys
-projection_of p = keys_of p.keys

@@ -1,0 +1,3 @@
+-- Words that only private functions cite.
+pub mod Places
+pub mod Steps

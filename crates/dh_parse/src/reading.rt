@@ -1,0 +1,145 @@
+//! The loop over the tokens of a text.
+ghost use Rattle.std.specs.Prelude.{◌≡◌, ◌+◌, [], not, ◌||◌, IfOk, IfErr};
+ghost use Rattle.dh_frames.specs.Stacks.{stack_of};
+ghost use Rattle.dh_frames.specs.States.{state_of};
+ghost use Rattle.dh_grammar.specs.Depths.{Within, opens_many};
+ghost use Rattle.dh_grammar.specs.Machine.{need, gap_at};
+ghost use Rattle.dh_grammar.specs.Reading.{accepted, reading_at};
+ghost use Rattle.dh_parse.specs.Answers.{IsFault};
+ghost use Rattle.dh_parse.specs.Inside.Steps.{Reads, Refuses};
+ghost use Rattle.dh_syntax.specs.declared.faults.ParseFault.TheVariants.{Memory};
+ghost use Rattle.dh_syntax.specs.declared.tokens.TokenKind.TheVariants as kinds;
+
+use crate::steps::after;
+use dh_frames::{Frames, Place, Stop, gap_at};
+use dh_making::Makes;
+use dh_syntax::{MOST_OPEN, Mark, ParseFault, Token, TokenKind};
+use dh_tokens::Tokens;
+use std::alloc::Global;
+
+/// Whether the token has the white space before it that it needs.
+fn has_gap<M: Makes>(frames: &Frames<M>, place: &Place<M>, kind: &TokenKind, gap: bool) -> bool
+    ensures { result ≡ (not (gap_at (state_of M.views frames.now place.now) kind.now) || gap) }
+{
+    !gap_at(frames, place, kind) || gap
+}
+
+/// Whether a mark that begins an operand would open too many expressions. `]` and `,` begin none.
+fn mark_opens_many<M: Makes>(frames: &Frames<M>, mark: Mark) -> bool
+    ensures { result ≡ opens_many (need (stack_of M.views frames.now)) (kinds.Mark mark) }
+{
+    match mark {
+        Mark::BracketClose | Mark::Comma => false,
+        Mark::ParenOpen | Mark::ParenClose | Mark::BracketOpen => frames.depth() > MOST_OPEN,
+        Mark::BraceOpen | Mark::BraceClose | Mark::AngleOpen => frames.depth() > MOST_OPEN,
+        Mark::AngleClose | Mark::Dot | Mark::Colon | Mark::Equals => frames.depth() > MOST_OPEN,
+        Mark::At | Mark::Bar | Mark::Arrow | Mark::Lambda => frames.depth() > MOST_OPEN,
+        Mark::Forall | Mark::Operator(_) => frames.depth() > MOST_OPEN,
+    }
+}
+
+/// Whether a token that begins an operand would open too many expressions.
+fn begins_many<M: Makes>(frames: &Frames<M>, kind: &TokenKind) -> bool
+    ensures { result ≡ opens_many (need (stack_of M.views frames.now)) kind.now }
+{
+    match kind {
+        TokenKind::Mark(mark) => mark_opens_many(frames, *mark),
+        TokenKind::Name(_) | TokenKind::Quoted(_) | TokenKind::Keyword(_) | TokenKind::Bool(_) => {
+            frames.depth() > MOST_OPEN
+        }
+        TokenKind::Builtin(_) | TokenKind::Natural(_) | TokenKind::Integer(_) => {
+            frames.depth() > MOST_OPEN
+        }
+        TokenKind::TextOpen(_) | TokenKind::TextPiece(_) | TokenKind::TextClose => {
+            frames.depth() > MOST_OPEN
+        }
+        TokenKind::InterpolationOpen | TokenKind::InterpolationClose | TokenKind::Path(_) => {
+            frames.depth() > MOST_OPEN
+        }
+        TokenKind::Url(_) | TokenKind::Environment(_) | TokenKind::Digest(_) | TokenKind::End => {
+            frames.depth() > MOST_OPEN
+        }
+    }
+}
+
+/// Whether a token would open too many expressions. It is asked only where an operand begins.
+fn opens_many<M: Makes>(frames: &Frames<M>, place: &Place<M>, kind: &TokenKind) -> bool
+    ensures { result ≡ opens_many (state_of M.views frames.now place.now) kind.now }
+{
+    match place {
+        Place::Need => begins_many(frames, kind),
+        Place::Have(_) => false,
+        Place::Wait(_) => false,
+        Place::Done(_) => false,
+    }
+}
+
+/// One token read, with the white space that it needs before it.
+fn step<M: Makes>(
+    alloc: Global,
+    at: u32,
+    frames: &mut Frames<M>,
+    place: Place<M>,
+    token: Token,
+) -> Result<Place<M>, ParseFault>
+    requires { Within (state_of M.views frames.old place) }
+    ensures read { IfOk result (λ p. Reads M.makes at (state_of M.views frames.old place) token (state_of M.views frames.new p)) }
+    ensures fault { IfErr result (Refuses M.makes at (state_of M.views frames.old place) token) }
+{
+    let Token {
+        kind,
+        from,
+        to: _,
+        gap,
+    } = token;
+    if !has_gap(frames, &place, &kind, gap) {
+        return Err(ParseFault::Syntax(from));
+    }
+    let is_deep = opens_many(frames, &place, &kind);
+    match after(alloc, at, frames, place, kind) {
+        Ok(next) => {
+            if is_deep {
+                return Err(ParseFault::TooNested);
+            }
+            Ok(next)
+        }
+        Err(Stop::Refused) => Err(ParseFault::Syntax(from)),
+        Err(Stop::Memory) => Err(ParseFault::Memory),
+    }
+}
+
+/// The number of the next token. There are no more tokens in memory than numbers.
+fn next_number(at: u32) -> Result<u32, ParseFault>
+    ensures ok { IfOk result (λ n. n ≡ at + 1) }
+    ensures err { IfErr result (λ f. f ≡ Memory) }
+{
+    match at.checked_add(1) {
+        Some(next) => Ok(next),
+        None => Err(ParseFault::Memory),
+    }
+}
+
+/// What the tokens spell: what the builder makes of them.
+pub fn read<M: Makes>(alloc: Global, tokens: Tokens) -> Result<M::Tree, ParseFault>
+    ensures ok { IfOk result (λ x. reading_at M.makes 0 (need []) tokens ≡ accepted (M.views.tree x)) }
+    ensures fault { IfErr result (IsFault (reading_at M.makes 0 (need []) tokens)) }
+{
+    let mut frames: Frames<M> = Frames::new(alloc);
+    let mut place: Place<M> = Place::Need;
+    let mut at = 0;
+    for token in tokens.into_vec() {
+        match step(alloc, at, &mut frames, place, token) {
+            Ok(next) => place = next,
+            Err(fault) => return Err(fault),
+        }
+        match next_number(at) {
+            Ok(next) => at = next,
+            Err(fault) => return Err(fault),
+        }
+    }
+    match place {
+        Place::Done(operand) => Ok(operand),
+        // The tokens of a text end in `End`, behind which nothing is awaited.
+        Place::Need | Place::Have(_) | Place::Wait(_) => Err(ParseFault::Memory),
+    }
+}

@@ -1,0 +1,4 @@
+pub mod FromRight
+pub mod LaterKeys
+pub mod SpanTrees
+pub mod TokenLists

@@ -1,0 +1,10 @@
+-- The numbers of the keys that follow the first one of an entry.
+use Rattle.std.specs.Prelude.{ℕ, zero, suc, ◌+◌, ◌*◌, List, [], ◌∷◌, ◌++◌}
+
+-- of the later key of this number, behind one of this number
+abbrev pub position : ℕ → ℕ → ℕ
+position n i = n * 2 + i + 2
+
+abbrev pub later : ℕ → ℕ → List ℕ
+later zero i = []
+later (suc n) i = later n i ++ position n i ∷ []

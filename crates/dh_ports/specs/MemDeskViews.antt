@@ -1,0 +1,34 @@
+-- The lists of a desk in memory: what is found outside, what the cache has, and what was kept.
+use Rattle.std.specs.Prelude.{◌≡◌, List, Contains}
+use Rattle.dh_ports.specs.Counts.{one_more}
+use Rattle.dh_ports.specs.declared.calls.Calls.{Calls}
+use Rattle.dh_ports.specs.declared.mem_desks.CacheEntry.{CacheEntry}
+use Rattle.dh_ports.specs.declared.mem_desks.Content.{Content}
+use Rattle.dh_ports.specs.declared.mem_desks.MemDesk.{MemDesk}
+
+abbrev pub contents_of : MemDesk → List Content
+contents_of d = d.contents
+
+abbrev pub cache_of : MemDesk → List CacheEntry
+cache_of d = d.cache
+
+abbrev pub kept_of : MemDesk → List CacheEntry
+kept_of d = d.kept
+
+-- the calls of each kind that were made, and which fail
+abbrev pub fetches_of : MemDesk → Calls
+fetches_of d = d.fetches
+
+abbrev pub looks_of : MemDesk → Calls
+looks_of d = d.looks
+
+abbrev pub keeps_of : MemDesk → Calls
+keeps_of d = d.keeps
+
+-- whether the next call of a kind is to fail
+abbrev pub IsDue : Calls → Type 0
+IsDue calls = Contains calls.fails (one_more calls.made)
+
+-- what is found outside, and what the cache has, stay as they are
+abbrev pub SameOutside : MemDesk → MemDesk → Type 0
+SameOutside old new = (contents_of new ≡ contents_of old) × (cache_of new ≡ cache_of old)

@@ -1,0 +1,4 @@
+pub mod Numbering
+pub mod Histories
+pub mod Logs
+pub mod Stepping

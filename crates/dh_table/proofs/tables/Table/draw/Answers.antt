@@ -1,0 +1,38 @@
+use Rattle.std.proofs.Common.{rules, ◌≡◌, ◌+◌, ◌<◌, suc, length, sym, arith, append-nil, vec_len, subst as along}
+use Rattle.std.specs.Prelude.{map}
+use Rattle.std.proofs.lemmas.Grind.{common_steps}
+use Rattle.dh_syntax.specs.Imports.Machine as machine
+use Rattle.dh_syntax.specs.Imports.Machine.{IsOpen}
+use Rattle.dh_table.specs.declared.steps.Flight.{Flight}
+use Rattle.dh_table.specs.declared.steps.Job.{Job}
+use Rattle.dh_table.specs.States.{state_of, task_of, news_of}
+use Rattle.dh_table.specs.Tables.{view_of}
+use Rattle.dh_table.proofs.Histories.{further}
+use Rattle.dh_table.proofs.Stepping.{state-with, drawn-flights, drawn-jobs, drawn-history, all-push}
+use Rattle.dh_table.proofs.tables.Table.draw.Goals as goal
+
+pub invariant_of-self : goal.invariant_of-self
+invariant_of-self g c =
+    let t = c.self.inside in
+    let old = view_of t in
+    let keys = t.keys.items in
+    let n : c.len.result + 1 ≡ suc (length t.drawn.items) = search rules in
+    let named : c.args.job.key < length keys = search rules in
+    let f : Flight = record { serial = c.len.result + 1; job = c.args.job } in
+    let next = view_of (record t { flights = c.put-2.new.v; drawn = c.put.new.v; history = c.put-3.new.v }) in
+    record {
+      replays =
+          further _ _ _ _ _ c.self.invariant.replays (machine.Claim c.args.worker (task_of keys c.args.job)) (along (λ v. IsOpen (state_of v) (task_of v.keys c.args.job)) (sym c.self.view_is) c.requires.open)
+          (state_of next) _ _
+          (state-with (state_of next) _ _ (drawn-flights keys t.flights.items _ t.drawn.items f c.put-2.ensures.items n) (drawn-jobs keys t.drawn.items _ c.args.job c.put.ensures.items))
+          (sym (append-nil (map news_of t.refused.items)))
+          (drawn-history keys t.history.items _ t.drawn.items c.args.worker (c.len.result + 1) c.args.job c.put-3.ensures.items n);
+      flights_named = all-push (λ (f : Flight). f.job.key < vec_len t.keys) t.flights.items _ f c.put-2.ensures.items c.self.invariant.flights_named (search rules);
+      drawn_named = all-push (λ (j : Job). j.key < vec_len t.keys) t.drawn.items _ _ c.put.ensures.items c.self.invariant.drawn_named (search rules);
+      decided_named = c.self.invariant.decided_named;
+      limited_named = c.self.invariant.limited_named;
+      owned = c.self.invariant.owned;
+      asks = c.self.invariant.asks;
+      root_fits = c.self.invariant.root_fits;
+      room = grind (arith, common_steps);
+    }

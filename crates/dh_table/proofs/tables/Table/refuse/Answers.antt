@@ -1,0 +1,32 @@
+use Rattle.std.proofs.Common.{sym, refl, arith, subst as along}
+use Rattle.std.proofs.lemmas.Grind.{common_steps}
+use Rattle.dh_syntax.specs.Imports.Machine as machine
+use Rattle.dh_syntax.specs.Imports.Machine.{IsInTime}
+use Rattle.dh_table.specs.States.{state_of, news_of, step_by}
+use Rattle.dh_table.specs.Tables.{view_of}
+use Rattle.dh_table.specs.declared.steps.Step.TheVariants as steps
+use Rattle.dh_table.proofs.Histories.{further}
+use Rattle.dh_table.proofs.Logs.{mapped}
+use Rattle.dh_table.proofs.tables.Table.refuse.Goals as goal
+
+pub invariant_of-self : goal.invariant_of-self
+invariant_of-self g c =
+    let t = c.self.inside in
+    let keys = t.keys.items in
+    let next = view_of (record t { history = c.put-2.new.v; refused = c.put.new.v }) in
+    record {
+      replays =
+          further _ _ _ _ _ c.self.invariant.replays (machine.Late c.args.serial (news_of c.args.news))
+          (along (λ v. ¬ IsInTime (state_of v) c.args.serial (news_of c.args.news)) (sym c.self.view_is) c.requires.late)
+          (state_of next) _ _ refl
+          (mapped news_of t.refused.items _ c.args.news c.put.ensures.items)
+          (mapped (step_by keys) t.history.items _ (steps.Late c.args.serial) c.put-2.ensures.items);
+      flights_named = c.self.invariant.flights_named;
+      drawn_named = c.self.invariant.drawn_named;
+      decided_named = c.self.invariant.decided_named;
+      limited_named = c.self.invariant.limited_named;
+      owned = c.self.invariant.owned;
+      asks = c.self.invariant.asks;
+      root_fits = c.self.invariant.root_fits;
+      room = grind (arith, common_steps);
+    }

@@ -1,0 +1,7 @@
+pub mod Calls
+pub mod Ends
+pub mod Entries
+pub mod Items
+pub mod Shown
+pub mod States
+pub mod Tables

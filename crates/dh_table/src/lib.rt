@@ -1,0 +1,20 @@
+//! The table that workers share: what a run has found, what came of each key, the tasks in flight, and every step so far.
+//!
+//! A worker claims a task, works on it, and delivers what it found or what came of it. The table says which task is open: that of
+//! a key that the walk of the root wants and that waits for no other key. Each call is one step of the machine of the
+//! definitions, and the table's type keeps that its history leads to its state.
+#![tactic(auto)]
+
+mod entries;
+mod items;
+mod news;
+mod numbers;
+mod steps;
+mod tables;
+mod texts;
+
+pub use entries::{Entry, Seen};
+pub use items::{Body, Done, Item};
+pub use news::{News, Noted, Parsed};
+pub use steps::{Kind, Step};
+pub use tables::{Table, Ticket};

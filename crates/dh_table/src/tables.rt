@@ -1,0 +1,198 @@
+//! The table.
+
+ghost use Rattle.std.specs.Prelude.{◌≡◌, ◌+◌, ◌≤◌, ◌<◌, ◌++◌, ◌∷◌, [], ℕ, suc, List, length, map, reverse, None, IsOk, OnOk, vec_len, vec_capacity};
+ghost use Rattle.std.specs.Option.{option_map};
+ghost use Rattle.dh_syntax.specs.Expressions.Numbers.{eq};
+ghost use Rattle.dh_syntax.specs.Imports.Machine as machine;
+ghost use Rattle.dh_syntax.specs.Imports.Machine.{Task, IsOpen, root_walk, InFlight, IsInTime, effect};
+ghost use Rattle.dh_syntax.specs.Imports.Records.{lookup};
+ghost use Rattle.dh_table.specs.declared.texts.Entrant.{Entrant};
+ghost use Rattle.dh_table.specs.Calls.{Adds, IsSame, Releases};
+ghost use Rattle.dh_demand.specs.Nexts.{IsNext, IsInside};
+ghost use Rattle.dh_table.specs.States.{rows_of, state_of, task_of, flight_of, news_of};
+
+use crate::news::News;
+use crate::steps::{Flight, Job, Kind, Step};
+use crate::texts::{Entrant, Look, Text};
+use dh_demand::{Next, Results, Scan, next};
+use dh_syntax::{Key, Outcome};
+use std::alloc::{AllocError, Global};
+use std::marker::{Model, PhantomData};
+
+/// The right to deliver or to release one task.
+#[derive(Debug, Drop)]
+pub struct Ticket {
+    serial: u64,
+    kind: Kind,
+}
+
+/// The table of one run.
+#[derive(Debug, Drop)]
+pub struct Table<W> {
+    root: Scan,
+    keys: Vec<Entrant>,
+    texts: Vec<Text>,
+    looks: Vec<Look>,
+    // the numbers of the decided keys, in the order of their steps
+    decided: Vec<u32>,
+    // of these, the numbers of those that were decided by a limit
+    limited: Vec<u32>,
+    flights: Vec<Flight>,
+    drawn: Vec<Job>,
+    history: Vec<Step>,
+    refused: Vec<News>,
+    world: PhantomData<W>,
+}
+
+impl<W> Model for Table<W> {
+    ghost use Rattle.dh_table.specs.Shown.{Shown};
+    ghost use Rattle.dh_syntax.specs.contracts.expressions.Expr as e;
+    ghost use Rattle.std.specs.Coded.{codes};
+
+    ghost Value = { Shown };
+
+    ghost coded = { Prim.hlevel (codes, e.the_row.coded) };
+
+    ghost use Rattle.dh_table.specs.Tables.{view_of, IsGood};
+
+    ghost view = { λ t. view_of t };
+
+    ghost invariant = { λ t. IsGood t };
+}
+
+/// Adds an element where there is room.
+fn put<T: Drop>(v: &mut Vec<T>, x: T)
+    requires { vec_len v.old < vec_capacity v.old }
+    ensures items { v.new.items ≡ v.old.items ++ x ∷ [] }
+    ensures len { vec_len v.new ≡ vec_len v.old + 1 }
+    ensures room { vec_capacity v.old ≤ vec_capacity v.new }
+{
+    let Ok(()) = v.push(x) else { unreachable!() };
+}
+
+impl<W> Table<W> {
+    /// The steps so far.
+    pub fn history(&self) -> &[Step]
+        ensures { result.now ≡ self.now.history }
+    {
+        self.history.as_slice()
+    }
+
+    /// How many tasks are in flight.
+    pub fn in_flight(&self) -> usize
+        ensures count { result ≡ length self.now.flights }
+        ensures room { length self.now.flights ≤ self.now.spare }
+    {
+        self.flights.len()
+    }
+
+    /// Makes room for so many more steps.
+    pub fn reserve(&mut self, n: usize) -> Result<(), AllocError>
+        ensures same { IsSame self.old self.new }
+        ensures spare { self.old.spare ≤ self.new.spare }
+        ensures room { OnOk result (n ≤ self.new.spare) }
+        ensures succeeds { n ≤ self.old.spare → IsOk result }
+    {
+        self.flights.reserve(n)?;
+        self.drawn.reserve(n)?;
+        self.history.reserve(n)?;
+        self.refused.reserve(n)?;
+        Ok(())
+    }
+
+    // What the walk of the root does next.
+    fn root_next(&self) -> Next
+        ensures next { IsNext None (rows_of self.now.keys) (root_walk (state_of self.now)) result }
+        ensures inside { IsInside (rows_of self.now.keys) result }
+    {
+        next(&self.root, None, self)
+    }
+
+    // The step that hands out the task of a key.
+    fn draw(&mut self, worker: u32, job: Job) -> Ticket
+        requires open { IsOpen (state_of self.old) (task_of self.old.keys job) }
+        requires named { job.key < length self.old.keys }
+        requires room { length self.old.flights + 2 ≤ self.old.spare }
+        ensures serial { result.serial ≡ suc (length self.old.drawn) }
+        ensures kind { result.kind ≡ job.kind }
+        ensures state { state_of self.new ≡ effect (machine.Claim worker (task_of self.old.keys job)) (state_of self.old) }
+        ensures keys { self.new.keys ≡ self.old.keys }
+        ensures adds { Adds self.old self.new (Step.Claim worker job.kind (suc (length self.old.drawn)) ∷ []) }
+    {
+        let serial = self.drawn.len() as u64 + 1;
+        let kind = job.kind;
+        put(&mut self.drawn, job);
+        put(&mut self.flights, Flight { serial, job });
+        put(
+            &mut self.history,
+            Step::Claim {
+                worker,
+                kind,
+                serial,
+            },
+        );
+        Ticket { serial, kind }
+    }
+
+    // The step that keeps news that came too late.
+    fn refuse(&mut self, serial: u64, news: News)
+        requires late { ¬ IsInTime (state_of self.old) serial (news_of news) }
+        requires room { length self.old.flights + 1 ≤ self.old.spare }
+        ensures state { state_of self.new ≡ state_of self.old }
+        ensures keys { self.new.keys ≡ self.old.keys }
+        ensures adds { Adds self.old self.new (Step.Late serial ∷ []) }
+    {
+        put(&mut self.refused, news);
+        put(&mut self.history, Step::Late { serial });
+    }
+
+    /// Puts the task of a ticket back. Answers whether its serial is in flight.
+    pub fn release(&mut self, ticket: Ticket) -> bool
+        ensures { Releases result self.old self.new ticket.serial }
+    {
+        let serial = ticket.serial;
+        if job_of(self.flights.as_slice(), serial).is_none() {
+            return false;
+        }
+        self.land(serial);
+        true
+    }
+
+    // The step that puts a task back.
+    fn land(&mut self, serial: u64)
+        requires { (t : Task) × InFlight (state_of self.old) serial t }
+        ensures state { state_of self.new ≡ effect (machine.Release serial) (state_of self.old) }
+        ensures keys { self.new.keys ≡ self.old.keys }
+        ensures adds { Adds self.old self.new (Step.Release serial ∷ []) }
+    {
+        self.flights.retain(|flight| flight.serial != serial);
+        put(&mut self.history, Step::Release { serial });
+    }
+}
+
+impl<W> Results for Table<W> {
+    ghost use Rattle.dh_table.specs.States.{rows_of};
+
+    ghost rows = { λ t. rows_of t.keys };
+
+    fn outcome(&self, key: u32) -> Option<&Outcome> {
+        self.keys[key as usize].outcome.as_ref()
+    }
+
+    fn key(&self, key: u32) -> &Key {
+        &self.keys[key as usize].key
+    }
+}
+
+// The task in flight under a serial: the last one.
+fn job_of(flights: &[Flight], serial: u64) -> Option<Job>
+    ensures { (keys : List Entrant) → option_map (task_of keys) result ≡ lookup eq (reverse (map (flight_of keys) flights.now)) serial }
+{
+    let mut found = None;
+    for flight in flights {
+        if flight.serial == serial {
+            found = Some(flight.job);
+        }
+    }
+    found
+}
