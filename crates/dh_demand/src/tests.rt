@@ -1,4 +1,4 @@
-//! Tests: the keys of a text's imports, and a text without imports over results that know no key.
+//! Tests: the keys of a text's imports, and the walk of a text without imports and of a text that is one import.
 
 use super::*;
 use dh_paths::loc_text;
@@ -6,22 +6,34 @@ use dh_syntax::{Comps, Expr, Import, Key, Kid, Loc, Many, Mode, Op, Outcome, Pie
 use std::alloc::{AllocError, Global};
 use std::test::Fail;
 
-/// Results that know no key.
+/// Results of one key.
 #[derive(Drop)]
-struct Nothing;
+struct One {
+    key: Key,
+    outcome: Option<Outcome>,
+}
 
-impl Results for Nothing {
-    ghost use Rattle.std.specs.Prelude.{[]};
+impl Results for One {
+    ghost use Rattle.std.specs.Prelude.{[], ◌∷◌};
 
-    ghost rows = { λ _. [] };
+    ghost rows = { λ s. (s.key, s.outcome) ∷ [] };
 
     fn outcome(&self, _key: u32) -> Option<&Outcome> {
-        unreachable!()
+        self.outcome.as_ref()
     }
 
     fn key(&self, _key: u32) -> &Key {
-        unreachable!()
+        &self.key
     }
+}
+
+fn one(outcome: Option<Outcome>) -> One {
+    let key = Key {
+        loc: Loc::Missing,
+        mode: Mode::Code,
+        digest: None,
+    };
+    One { key, outcome }
 }
 
 fn path(alloc: Global, folder: &str, file: &str) -> Result<Comps, AllocError> {
@@ -75,11 +87,11 @@ fn a_text_without_imports_is_ready(rt: HostRuntime) -> Result<(), Fail> {
         expr: Expr::Node(Op::Nat(3), Many::new(alloc)),
         edges: Many::new(alloc),
     };
-    let results = Nothing;
+    let results = one(None);
     assert!(rt; matches!(next(&scan, None, &results), Next::Ready));
-    let mut marks = Marks::of(vec![in alloc; false; 2]?);
+    let mut marks = Marks::of(vec![in alloc; false; 1]?);
     wanted(&scan, None, &results, &mut marks);
-    assert!(rt; !marks.is_set(1));
+    assert!(rt; !marks.is_set(0));
     let value = assemble(alloc, &scan, &results)?;
     assert!(rt; matches!(&value, Expr::Node(Op::Nat(3), _)));
     Ok(())

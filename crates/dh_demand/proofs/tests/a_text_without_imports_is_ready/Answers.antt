@@ -18,29 +18,29 @@ use Rattle.dh_demand.proofs.tests.a_text_without_imports_is_ready.Goals as goal
 no_keys : (ks : List Kid) → ks ≡ [] → keys_of None (term (expr.Node (ops.Nat 3) ks)) ≡ []
 no_keys ks h = at_term-Node (keys_of None) (expr.Node (ops.Nat 3) ks) (ops.Nat 3) ks refl ∙ ap (keys_of_row None) (ap row_of h ∙ row_of-nil)
 
-literal_fits : (ks : List Kid) (es : List Edge) → ks ≡ [] → es ≡ [] → Fits None [] (term (expr.Node (ops.Nat 3) ks)) es
-literal_fits ks es h p = record {
-  inside = along (AreInside []) (sym p) (All-nil (λ (e : Edge). e.key < 0));
-  begins = along (λ ls. Begins None [] ls es) (sym (no_keys ks h)) tt;
+literal_fits : (rows : List Row) (ks : List Kid) (es : List Edge) → ks ≡ [] → es ≡ [] → Fits None rows (term (expr.Node (ops.Nat 3) ks)) es
+literal_fits rows ks es h p = record {
+  inside = along (AreInside rows) (sym p) (All-nil (λ (e : Edge). e.key < length rows));
+  begins = along (λ ls. Begins None rows ls es) (sym (no_keys ks h)) tt;
 }
 
-literal_ready : (ks : List Kid) (es : List Edge) → ks ≡ [] → es ≡ [] → (parent : _) × (v : Term) × IsReady parent [] (term (expr.Node (ops.Nat 3) ks)) es v
-literal_ready ks es h p = (
+literal_ready : (rows : List Row) (ks : List Kid) (es : List Edge) → ks ≡ [] → es ≡ [] → (parent : _) × (v : Term) × IsReady parent rows (term (expr.Node (ops.Nat 3) ks)) es v
+literal_ready rows ks es h p = (
   None,
   Node (ops.Nat 3) end,
   record {
-    fits = literal_fits ks es h p;
+    fits = literal_fits rows ks es h p;
     ready =
-        at_term-Node (walk None (ask_of [])) (expr.Node (ops.Nat 3) ks) (ops.Nat 3) ks refl
-        ∙ ap (λ r. walk_node None (ask_of []) (ops.Nat 3) r other (walks None (ask_of []) r)) (ap row_of h ∙ row_of-nil);
+        at_term-Node (walk None (ask_of rows)) (expr.Node (ops.Nat 3) ks) (ops.Nat 3) ks refl
+        ∙ ap (λ r. walk_node None (ask_of rows) (ops.Nat 3) r other (walks None (ask_of rows) r)) (ap row_of h ∙ row_of-nil);
   },
 )
 
 pub next-requires : goal.next-requires
-next-requires g c = literal_fits _ _ c.new.ensures c.new-2.ensures
+next-requires g c = literal_fits _ _ _ c.new.ensures c.new-2.ensures
 
 pub wanted-requires-clause-fits : goal.wanted-requires-clause-fits
-wanted-requires-clause-fits g c = literal_fits _ _ c.new.ensures c.new-2.ensures
+wanted-requires-clause-fits g c = literal_fits _ _ _ c.new.ensures c.new-2.ensures
 
 pub assemble-requires : goal.assemble-requires
-assemble-requires g c = literal_ready _ _ c.new.ensures c.new-2.ensures
+assemble-requires g c = literal_ready _ _ _ c.new.ensures c.new-2.ensures
