@@ -1,0 +1,2 @@
+pub mod CodeNodes
+pub mod PartRows

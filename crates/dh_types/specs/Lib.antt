@@ -1,0 +1,4 @@
+pub mod Constants
+pub mod Parts
+pub mod Plain
+pub mod Shown
