@@ -36,7 +36,7 @@ module _ (cs : Codes) (coded : AreCoded cs) (k : ℕ) where
     there = kids-there cs coded k op ks h;
   }
 
-  absent-nothing : slice_get cs.codes.items k ≡ None → code_core cs k ≡ nothing
+  pub absent-nothing : slice_get cs.codes.items k ≡ None → code_core cs k ≡ nothing
   unfolding code_core
   absent-nothing h = past-end (code_cores cs.codes.items) k (let p = length-table code_value [] cs.codes.items in let q = none-past cs.codes.items k h in omega arith)
 

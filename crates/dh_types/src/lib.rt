@@ -6,9 +6,12 @@
 
 mod heads;
 mod kinds;
+mod labels;
 mod nodes;
 mod rows;
+mod sameness;
 
 pub use heads::{builtin_of, is_constant, universe_of};
 pub use kinds::{application, argument_of, equivalence, forall, record_type, union_type};
 pub use nodes::shown;
+pub use sameness::same;
