@@ -11,8 +11,8 @@ ghost use Rattle.dh_store.specs.Cells.{code_core, code_row, AreCoded, AreKidsBel
 ghost use Rattle.dh_types.specs.Parts.{alternatives_of, fields_of};
 
 use crate::heads::is_constant;
-use crate::rows::{are_fields, are_plain, first_two};
 use crate::nodes::shown;
+use crate::rows::{are_fields, are_plain, first_two};
 use dh_store::{CodeId, CodeKid, Codes};
 use dh_syntax::{Alt, BinOp, Builtin, Label, Op};
 
