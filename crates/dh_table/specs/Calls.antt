@@ -1,7 +1,8 @@
 -- What the calls of a table do.
 use Rattle.std.specs.Prelude.{◌≡◌, ℕ, ◌+◌, ◌≤◌, Bool, true, false, List, [], ◌∷◌, ◌++◌, length}
 use Rattle.dh_syntax.specs.Imports.Machine as machine
-use Rattle.dh_syntax.specs.Imports.Machine.{Task, InFlight, effect}
+use Rattle.dh_syntax.specs.Expressions.Tree.{Term}
+use Rattle.dh_syntax.specs.Imports.Machine.{Task, InFlight, effect, opening}
 use Rattle.dh_table.specs.declared.steps.Step.{Step}
 use Rattle.dh_table.specs.Shown.{Shown}
 use Rattle.dh_table.specs.States.{state_of}
@@ -25,3 +26,8 @@ pub record Released (old new : Shown) (serial : ℕ) : Type 0 where
 abbrev pub Releases : Bool → Shown → Shown → ℕ → Type 0
 Releases true old new serial = Released old new serial
 Releases false old new serial = ((t : Task) → ¬ InFlight (state_of old) serial t) × (new ≡ old)
+
+-- a table before its first step
+pub record IsOpened (root : Term) (t : Shown) : Type 0 where
+  pub state_is : state_of t ≡ opening root
+  pub history_is : t.history ≡ []

@@ -48,7 +48,7 @@ abbrev pub no_key : Key
 no_key = record { loc = locs.Missing; mode = modes.Location; digest = None }
 
 abbrev pub nobody : Entrant
-nobody = record { key = no_key; outcome = None; own = None }
+nobody = record { key = no_key; outcome = None; own = None; text = []; unfrozen = 0 }
 
 abbrev pub key_named : List Entrant → ℕ → Key
 key_named ks n = (slice_index_or ks n nobody).key

@@ -1,20 +1,28 @@
 -- What stands in a table's fields, and what is always true of them.
-use Rattle.std.specs.Prelude.{◌≡◌, ℕ, ◌-◌, ◌≤◌, ◌<◌, min, All, None, Some, vec_len, vec_capacity}
+use Rattle.std.specs.Prelude.{◌≡◌, ℕ, ◌-◌, ◌≤◌, ◌<◌, ◌^◌, ◌++◌, min, List, length, map, reverse, All, None, Some, vec_len, vec_capacity}
 use Rattle.dh_syntax.specs.Expressions.Bridge.{term}
+use Rattle.dh_syntax.specs.declared.locations.Key.{Key}
 use Rattle.dh_syntax.specs.Imports.Machine.{outcome_of}
+use Rattle.dh_syntax.specs.Imports.Replay.{with_bare, keys_found}
+use Rattle.dh_syntax.specs.Imports.Resolver.{is_in}
+use Rattle.dh_syntax.specs.Imports.Walk.{keys_of}
+use Rattle.dh_demand.specs.declared.scans.Scan.{Scan}
 use Rattle.dh_demand.specs.Results.{ask_of}
 use Rattle.dh_demand.specs.Scans.{Fits}
 use Rattle.dh_table.specs.declared.steps.Flight.{Flight}
 use Rattle.dh_table.specs.declared.steps.Job.{Job}
 use Rattle.dh_table.specs.declared.tables.Table.TheInside.{Inside}
 use Rattle.dh_table.specs.declared.texts.Entrant.{Entrant}
+use Rattle.dh_table.specs.declared.texts.Text.{Text}
+use Rattle.dh_table.specs.Inside.Entering.{AreDistinct, IsListed, keys_in}
+use Rattle.dh_table.specs.Inside.Reading.{IsRead}
 use Rattle.dh_table.specs.Shown.{Shown}
-use Rattle.dh_table.specs.States.{IsReplayed, rows_of, state_of}
+use Rattle.dh_table.specs.States.{IsReplayed, rows_of, state_of, text_of}
 
 abbrev pub view_of : {W : _} → Inside W → Shown
 view_of t = record {
   root = t.root;
-  keys = t.keys.items;
+  keys = t.keys;
   texts = t.texts.items;
   looks = t.looks.items;
   decided = t.decided.items;
@@ -26,18 +34,31 @@ view_of t = record {
   spare = min (min (vec_capacity t.flights - vec_len t.flights) (vec_capacity t.drawn - vec_len t.drawn)) (min (vec_capacity t.history - vec_len t.history) (vec_capacity t.refused - vec_len t.refused));
 }
 
+-- the keys that the root and the recorded texts name
+abbrev pub keys_named : Scan → List Text → List Key
+keys_named root texts = with_bare (keys_of None (term root.expr) ++ keys_found (reverse (map text_of texts)))
+
 -- an undecided key has itself beside it
 abbrev pub IsOwned : Entrant → Type 0
 IsOwned e = e.outcome ≡ None → e.own ≡ Some e.key
 
+-- the keys of a table are those that its texts name, each once, and the edges of its texts have their numbers
+pub record IsKnown (root : Scan) (keys : List Entrant) (texts : List Text) : Type 0 where
+  pub few : length keys ≤ 2 ^ 32
+  pub distinct : AreDistinct (keys_in keys)
+  pub members : (k : Key) → is_in k (keys_in keys) ≡ is_in k (keys_named root texts)
+  pub listed : All (IsListed (rows_of keys)) keys
+  pub root_fits : Fits None (rows_of keys) (term root.expr) root.edges
+  pub read : All (IsRead (rows_of keys)) texts
+
 pub record IsGood {W : _} (t : Inside W) : Type 0 where
   pub replays : IsReplayed (view_of t)
-  pub flights_named : All (λ (f : Flight). f.job.key < vec_len t.keys) t.flights.items
-  pub drawn_named : All (λ (j : Job). j.key < vec_len t.keys) t.drawn.items
-  pub decided_named : All (λ (n : ℕ). n < vec_len t.keys) t.decided.items
-  pub limited_named : All (λ (n : ℕ). n < vec_len t.keys) t.limited.items
-  pub owned : All IsOwned t.keys.items
+  pub flights_named : All (λ (f : Flight). f.job.key < length t.keys) t.flights.items
+  pub drawn_named : All (λ (j : Job). j.key < length t.keys) t.drawn.items
+  pub decided_named : All (λ (n : ℕ). n < length t.keys) t.decided.items
+  pub limited_named : All (λ (n : ℕ). n < length t.keys) t.limited.items
+  pub owned : All IsOwned t.keys
   -- what is known of the keys is what was decided
-  pub asks : outcome_of (state_of (view_of t)) ≡ ask_of (rows_of t.keys.items)
-  pub root_fits : Fits None (rows_of t.keys.items) (term t.root.expr) t.root.edges
+  pub asks : outcome_of (state_of (view_of t)) ≡ ask_of (rows_of t.keys)
+  pub known : IsKnown t.root t.keys t.texts.items
   pub room : vec_len t.flights ≤ (view_of t).spare

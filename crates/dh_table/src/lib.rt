@@ -5,10 +5,13 @@
 //! definitions, and the table's type keeps that its history leads to its state.
 #![tactic(auto)]
 
+mod entering;
+mod entrants;
 mod entries;
 mod items;
 mod news;
 mod numbers;
+mod opening;
 mod steps;
 mod tables;
 mod texts;
@@ -16,5 +19,6 @@ mod texts;
 pub use entries::{Entry, Seen};
 pub use items::{Body, Done, Item};
 pub use news::{News, Noted, Parsed};
+pub use opening::OpenFault;
 pub use steps::{Kind, Step};
 pub use tables::{Table, Ticket};

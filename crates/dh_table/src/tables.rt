@@ -11,9 +11,10 @@ ghost use Rattle.dh_table.specs.Calls.{Adds, IsSame, Releases};
 ghost use Rattle.dh_demand.specs.Nexts.{IsNext, IsInside};
 ghost use Rattle.dh_table.specs.States.{rows_of, state_of, task_of, flight_of, news_of};
 
+use crate::entrants::Entrants;
 use crate::news::News;
 use crate::steps::{Flight, Job, Kind, Step};
-use crate::texts::{Entrant, Look, Text};
+use crate::texts::{Look, Text};
 use dh_demand::{Next, Results, Scan, next};
 use dh_syntax::{Key, Outcome};
 use std::alloc::{AllocError, Global};
@@ -29,19 +30,19 @@ pub struct Ticket {
 /// The table of one run.
 #[derive(Debug, Drop)]
 pub struct Table<W> {
-    root: Scan,
-    keys: Vec<Entrant>,
-    texts: Vec<Text>,
-    looks: Vec<Look>,
+    pub(crate) root: Scan,
+    pub(crate) keys: Entrants,
+    pub(crate) texts: Vec<Text>,
+    pub(crate) looks: Vec<Look>,
     // the numbers of the decided keys, in the order of their steps
-    decided: Vec<u32>,
+    pub(crate) decided: Vec<u32>,
     // of these, the numbers of those that were decided by a limit
-    limited: Vec<u32>,
-    flights: Vec<Flight>,
-    drawn: Vec<Job>,
-    history: Vec<Step>,
-    refused: Vec<News>,
-    world: PhantomData<W>,
+    pub(crate) limited: Vec<u32>,
+    pub(crate) flights: Vec<Flight>,
+    pub(crate) drawn: Vec<Job>,
+    pub(crate) history: Vec<Step>,
+    pub(crate) refused: Vec<News>,
+    pub(crate) world: PhantomData<W>,
 }
 
 impl<W> Model for Table<W> {
@@ -176,11 +177,11 @@ impl<W> Results for Table<W> {
     ghost rows = { λ t. rows_of t.keys };
 
     fn outcome(&self, key: u32) -> Option<&Outcome> {
-        self.keys[key as usize].outcome.as_ref()
+        self.keys.outcome(key)
     }
 
     fn key(&self, key: u32) -> &Key {
-        &self.keys[key as usize].key
+        self.keys.key(key)
     }
 }
 

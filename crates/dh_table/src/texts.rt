@@ -3,7 +3,7 @@
 use crate::entries::Seen;
 use crate::news::Noted;
 use dh_demand::Scan;
-use dh_syntax::{Digest, Key, Loc, Outcome, ParseFault};
+use dh_syntax::{Digest, Key, Loc, Outcome, ParseFault, Piece};
 
 /// A recorded text.
 #[derive(Debug, Drop)]
@@ -28,4 +28,8 @@ pub struct Entrant {
     pub outcome: Option<Outcome>,
     /// The same key, while there is no outcome: a loop mark blames it, and takes no memory.
     pub own: Option<Key>,
+    /// The text of its location, by which keys are ordered.
+    pub text: Piece,
+    /// The number of the same key without its digest.
+    pub unfrozen: u32,
 }

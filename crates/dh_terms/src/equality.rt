@@ -155,7 +155,7 @@ fn is_same_bin(o: BinOp, p: BinOp) -> bool
 }
 
 /// Whether the two operators are equal.
-pub(crate) fn is_same_op(o: &Op, p: &Op) -> bool
+pub fn is_same_op(o: &Op, p: &Op) -> bool
     ensures { result ≡ op_eq o.now p.now }
 {
     match (o, p) {

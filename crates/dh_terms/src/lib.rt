@@ -27,7 +27,7 @@ mod weakening;
 pub use alpha_forms::alpha;
 pub use conditions::{fits_alpha, fits_shift, fits_subst};
 pub use cores::{Core, CoreKid, CoreKids};
-pub use equality::{is_same_key, is_same_loc};
+pub use equality::{is_same_key, is_same_loc, is_same_op};
 pub use free_variables::free;
 pub use nameless::{from_core, to_core};
 pub use sameness::same;

@@ -15,7 +15,7 @@ pub invariant_of-self : goal.invariant_of-self
 invariant_of-self g c =
     let t = c.self.inside in
     let old = view_of t in
-    let keys = t.keys.items in
+    let keys = t.keys in
     let n : c.len.result + 1 ≡ suc (length t.drawn.items) = search rules in
     let named : c.args.job.key < length keys = search rules in
     let f : Flight = record { serial = c.len.result + 1; job = c.args.job } in
@@ -27,12 +27,12 @@ invariant_of-self g c =
           (state-with (state_of next) _ _ (drawn-flights keys t.flights.items _ t.drawn.items f c.put-2.ensures.items n) (drawn-jobs keys t.drawn.items _ c.args.job c.put.ensures.items))
           (sym (append-nil (map news_of t.refused.items)))
           (drawn-history keys t.history.items _ t.drawn.items c.args.worker (c.len.result + 1) c.args.job c.put-3.ensures.items n);
-      flights_named = all-push (λ (f : Flight). f.job.key < vec_len t.keys) t.flights.items _ f c.put-2.ensures.items c.self.invariant.flights_named (search rules);
-      drawn_named = all-push (λ (j : Job). j.key < vec_len t.keys) t.drawn.items _ _ c.put.ensures.items c.self.invariant.drawn_named (search rules);
+      flights_named = all-push (λ (f : Flight). f.job.key < length t.keys) t.flights.items _ f c.put-2.ensures.items c.self.invariant.flights_named (search rules);
+      drawn_named = all-push (λ (j : Job). j.key < length t.keys) t.drawn.items _ _ c.put.ensures.items c.self.invariant.drawn_named (search rules);
       decided_named = c.self.invariant.decided_named;
       limited_named = c.self.invariant.limited_named;
       owned = c.self.invariant.owned;
       asks = c.self.invariant.asks;
-      root_fits = c.self.invariant.root_fits;
+      known = c.self.invariant.known;
       room = grind (arith, common_steps);
     }

@@ -1,4 +1,4 @@
-use Rattle.std.proofs.Common.{rules, ◌≡◌, ◌<◌, ap, sym, ◌∙◌, append-nil, vec_len, vec_capacity, subst as along}
+use Rattle.std.proofs.Common.{rules, ◌≡◌, ◌<◌, length, ap, sym, ◌∙◌, append-nil, vec_len, vec_capacity, subst as along}
 use Rattle.std.specs.Prelude.{map, filter, All}
 use Rattle.std.proofs.lemmas.Fn.{filter_same}
 use Rattle.dh_syntax.specs.Imports.Machine as machine
@@ -15,7 +15,7 @@ use Rattle.dh_table.proofs.tables.Table.land.Goals as goal
 pub invariant_of-self : goal.invariant_of-self
 invariant_of-self g c =
     let t = c.self.inside in
-    let keys = t.keys.items in
+    let keys = t.keys in
     let left : c.retain.new.self.items ≡ filter (others c.args.serial) t.flights.items = filter_same _ (others c.args.serial) _ (λ x b f r. search rules) _ _ c.retain.ensures.filtered in
     let flies = along (λ v. (x : Task) × InFlight (state_of v) c.args.serial x) (sym c.self.view_is) c.requires in
     let shorter = fewer_flights keys t.flights.items _ c.args.serial flies.0 left flies.1 in
@@ -28,13 +28,13 @@ invariant_of-self g c =
           (flights-with (state_of next) _ (filtered-flights keys c.args.serial t.flights.items _ left))
           (sym (append-nil (map news_of t.refused.items)))
           (mapped (step_by keys) t.history.items _ (steps.Release c.args.serial) c.put.ensures.items);
-      flights_named = along (λ fs. All (λ (f : Flight). f.job.key < vec_len t.keys) fs) (sym left) (all-filter (λ (f : Flight). f.job.key < vec_len t.keys) (others c.args.serial) t.flights.items c.self.invariant.flights_named);
+      flights_named = along (λ fs. All (λ (f : Flight). f.job.key < length t.keys) fs) (sym left) (all-filter (λ (f : Flight). f.job.key < length t.keys) (others c.args.serial) t.flights.items c.self.invariant.flights_named);
       drawn_named = c.self.invariant.drawn_named;
       decided_named = c.self.invariant.decided_named;
       limited_named = c.self.invariant.limited_named;
       owned = c.self.invariant.owned;
       asks = c.self.invariant.asks;
-      root_fits = c.self.invariant.root_fits;
+      known = c.self.invariant.known;
       room =
           room_lands (vec_len t.flights) _ (vec_capacity t.flights) _ (vec_len t.drawn) _ (vec_len t.history) _ (vec_capacity t.history) _ (vec_len t.refused) _ fewer c.self.invariant.room c.retain.ensures.capacity c.put.ensures.len c.put.ensures.room;
     }
@@ -42,7 +42,7 @@ invariant_of-self g c =
 pub returns-clause-state : goal.returns-clause-state
 returns-clause-state g c =
     let t = c.self.inside in
-    let keys = t.keys.items in
+    let keys = t.keys in
     let left : c.retain.new.self.items ≡ filter (others c.args.serial) t.flights.items = filter_same _ (others c.args.serial) _ (λ x b f r. search rules) _ _ c.retain.ensures.filtered in
     let next = view_of (record t { flights = c.retain.new.self; history = c.put.new.v }) in
     flights-with (state_of next) _ (filtered-flights keys c.args.serial t.flights.items _ left) ∙ ap (λ v. machine.effect (machine.Release c.args.serial) (state_of v)) c.self.view_is

@@ -12,7 +12,7 @@ use Rattle.dh_table.proofs.tables.Table.refuse.Goals as goal
 pub invariant_of-self : goal.invariant_of-self
 invariant_of-self g c =
     let t = c.self.inside in
-    let keys = t.keys.items in
+    let keys = t.keys in
     let next = view_of (record t { history = c.put-2.new.v; refused = c.put.new.v }) in
     record {
       replays =
@@ -27,6 +27,6 @@ invariant_of-self g c =
       limited_named = c.self.invariant.limited_named;
       owned = c.self.invariant.owned;
       asks = c.self.invariant.asks;
-      root_fits = c.self.invariant.root_fits;
+      known = c.self.invariant.known;
       room = grind (arith, common_steps);
     }

@@ -11,7 +11,7 @@ use Rattle.dh_table.proofs.tables.Table.root_next.Goals as goal
 pub returns-clause-next : goal.returns-clause-next
 returns-clause-next g c =
     let t = c.self.inside in
-    let rows = rows_of t.keys.items in
+    let rows = rows_of t.keys in
     let here : IsNext None rows (walk None (ask_of rows) (term t.root.expr)) c.next.result =
     along (λ v. IsNext None (rows_of v.keys) (walk None (ask_of (rows_of v.keys)) (term t.root.expr)) c.next.result) (sym c.self.view_is) c.next.ensures.next in
     along (λ v. IsNext None (rows_of v.keys) (root_walk (state_of v)) c.next.result) c.self.view_is

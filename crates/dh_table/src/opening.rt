@@ -1,0 +1,63 @@
+//! A table of a run that begins.
+
+ghost use Rattle.std.specs.Prelude.{◌≡◌, ◌<◌, ◌≤◌, [], true, false, IfOk, IfErr, MatchResult};
+ghost use Rattle.dh_syntax.specs.Expressions.Bridge.{term};
+ghost use Rattle.dh_syntax.specs.Imports.Machine.{opening};
+ghost use Rattle.dh_syntax.specs.Imports.Replay.{has_too_many};
+ghost use Rattle.dh_table.specs.Calls.{IsOpened};
+
+use crate::entering::enter_all;
+use crate::entrants::Entrants;
+use crate::tables::Table;
+use dh_demand::{Marks, Scan, import_keys};
+use dh_syntax::{Expr, MOST_KEYS};
+use std::alloc::{AllocError, Global};
+use std::marker::PhantomData;
+
+/// Why no table opens.
+#[derive(Clone, Copy, Debug, PartialEq, Eq)]
+pub enum OpenFault {
+    /// The root has more than 4,096 keys.
+    TooMany,
+    Memory,
+}
+
+impl From<AllocError> for OpenFault {
+    ghost use Rattle.dh_table.specs.declared.opening.OpenFault.TheVariants.{Memory};
+
+    ghost from_gives = { λ _ e. e ≡ Memory };
+
+    fn from(_e: AllocError) -> OpenFault {
+        OpenFault::Memory
+    }
+}
+
+impl<W> Table<W> {
+    /// The table of a run of this root, before its first step.
+    pub fn open(alloc: Global, root: Expr) -> Result<Table<W>, OpenFault>
+        ensures opened { IfOk result (λ t. IsOpened (term root) t) }
+        ensures few { IfOk result (λ t. has_too_many (opening (term root)) ≡ false) }
+        ensures too_many { IfErr result (λ e. e ≡ OpenFault.TooMany → has_too_many (opening (term root)) ≡ true) }
+    {
+        let imports = import_keys(alloc, &root, None)?;
+        let mut keys = Entrants::new(alloc);
+        let edges = enter_all(alloc, &mut keys, imports.as_slice(), None)?;
+        if keys.len() > MOST_KEYS {
+            return Err(OpenFault::TooMany);
+        }
+        let root = Scan { expr: root, edges };
+        Ok(Table {
+            root,
+            keys,
+            texts: Vec::new(alloc),
+            looks: Vec::new(alloc),
+            decided: Vec::new(alloc),
+            limited: Vec::new(alloc),
+            flights: Vec::new(alloc),
+            drawn: Vec::new(alloc),
+            history: Vec::new(alloc),
+            refused: Vec::new(alloc),
+            world: PhantomData,
+        })
+    }
+}

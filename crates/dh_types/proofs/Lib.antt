@@ -1,0 +1,4 @@
+pub mod CodeNodes
+pub mod FreeVariables
+pub mod PartRows
+pub mod SameCodes

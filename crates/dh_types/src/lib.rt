@@ -1,0 +1,17 @@
+//! Types as codes: whether a normal type has a form, with which parts, and the forms that the rules of typing make.
+//!
+//! A type is a code, whose parts are older codes, so what two types share stands once, and nothing is copied where a rule takes
+//! a part of a type. Each view is its definition over what the code stands for.
+#![tactic(auto)]
+
+mod heads;
+mod kinds;
+mod labels;
+mod nodes;
+mod rows;
+mod sameness;
+
+pub use heads::{builtin_of, is_constant, universe_of};
+pub use kinds::{application, argument_of, equivalence, forall, record_type, union_type};
+pub use nodes::shown;
+pub use sameness::same;
