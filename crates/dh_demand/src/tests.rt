@@ -27,7 +27,7 @@ impl Results for One {
     }
 }
 
-fn one(outcome: Option<Outcome>) -> One {
+fn results_with(outcome: Option<Outcome>) -> One {
     let key = Key {
         loc: Loc::Missing,
         mode: Mode::Code,
@@ -87,7 +87,7 @@ fn a_text_without_imports_is_ready(rt: HostRuntime) -> Result<(), Fail> {
         expr: Expr::Node(Op::Nat(3), Many::new(alloc)),
         edges: Many::new(alloc),
     };
-    let results = one(None);
+    let results = results_with(None);
     assert!(rt; matches!(next(&scan, None, &results), Next::Ready));
     let mut marks = Marks::of(vec![in alloc; false; 1]?);
     wanted(&scan, None, &results, &mut marks);
