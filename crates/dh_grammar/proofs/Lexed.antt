@@ -5,3 +5,4 @@ pub mod Fairness
 pub mod LexedForms
 pub mod LexedTokens
 pub mod LexedUrls
+pub mod TokenCounts

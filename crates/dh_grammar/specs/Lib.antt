@@ -1,4 +1,5 @@
 pub mod Depths
+pub mod Ends
 pub mod Inside
 pub mod Laws
 pub mod Machine

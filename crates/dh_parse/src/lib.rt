@@ -7,6 +7,8 @@
 //! its nodes.
 #![tactic(auto)]
 
+#[cfg(test)]
+mod gap_tests;
 mod placed;
 mod reading;
 mod steps;

@@ -1,13 +1,13 @@
 //! The loop over the tokens of a text.
-ghost use Rattle.std.specs.Prelude.{◌≡◌, ◌+◌, [], not, ◌||◌, IfOk, IfErr};
+ghost use Rattle.std.specs.Prelude.{◌≡◌, ◌<◌, ◌^◌, [], length, not, ◌||◌, IfOk, IfErr};
 ghost use Rattle.dh_frames.specs.Stacks.{stack_of};
 ghost use Rattle.dh_frames.specs.States.{state_of};
 ghost use Rattle.dh_grammar.specs.Depths.{Within, opens_many};
+ghost use Rattle.dh_grammar.specs.Ends.{EndsLast};
 ghost use Rattle.dh_grammar.specs.Machine.{need, gap_at};
 ghost use Rattle.dh_grammar.specs.Reading.{accepted, reading_at};
 ghost use Rattle.dh_parse.specs.Answers.{IsFault};
 ghost use Rattle.dh_parse.specs.Inside.Steps.{Reads, Refuses};
-ghost use Rattle.dh_syntax.specs.declared.faults.ParseFault.TheVariants.{Memory};
 ghost use Rattle.dh_syntax.specs.declared.tokens.TokenKind.TheVariants as kinds;
 
 use crate::steps::after;
@@ -108,19 +108,10 @@ fn step<M: Makes>(
     }
 }
 
-/// The number of the next token. There are no more tokens in memory than numbers.
-fn next_number(at: u32) -> Result<u32, ParseFault>
-    ensures ok { IfOk result (λ n. n ≡ at + 1) }
-    ensures err { IfErr result (λ f. f ≡ Memory) }
-{
-    match at.checked_add(1) {
-        Some(next) => Ok(next),
-        None => Err(ParseFault::Memory),
-    }
-}
-
 /// What the tokens spell: what the builder makes of them.
 pub fn read<M: Makes>(alloc: Global, tokens: Tokens) -> Result<M::Tree, ParseFault>
+    requires ends { EndsLast tokens }
+    requires few { length tokens < 2 ^ 32 }
     ensures ok { IfOk result (λ x. reading_at M.makes 0 (need []) tokens ≡ accepted (M.views.tree x)) }
     ensures fault { IfErr result (IsFault (reading_at M.makes 0 (need []) tokens)) }
 {
@@ -132,14 +123,11 @@ pub fn read<M: Makes>(alloc: Global, tokens: Tokens) -> Result<M::Tree, ParseFau
             Ok(next) => place = next,
             Err(fault) => return Err(fault),
         }
-        match next_number(at) {
-            Ok(next) => at = next,
-            Err(fault) => return Err(fault),
-        }
+        at += 1;
     }
     match place {
         Place::Done(operand) => Ok(operand),
-        // The tokens of a text end in `End`, behind which nothing is awaited.
-        Place::Need | Place::Have(_) | Place::Wait(_) => Err(ParseFault::Memory),
+        // The last token was `End`, behind which nothing is awaited.
+        Place::Need | Place::Have(_) | Place::Wait(_) => unreachable!(),
     }
 }

@@ -51,7 +51,7 @@ fn imports_of(alloc: Global, text: &[u8]) -> Result<String, AllocError> {
 }
 
 /// What is wrong with a text, if anything is.
-fn fault_of(alloc: Global, text: &[u8]) -> Option<ParseFault> {
+pub(crate) fn fault_of(alloc: Global, text: &[u8]) -> Option<ParseFault> {
     match parse(alloc, text) {
         Ok(_) => None,
         Err(fault) => Some(fault),
@@ -61,7 +61,7 @@ fn fault_of(alloc: Global, text: &[u8]) -> Option<ParseFault> {
 #[test]
 fn places_are_found(rt: HostRuntime) -> Result<(), Fail> {
     let alloc = rt.alloc();
-    let table: [(&str, &str, &str); 11] = [
+    let table: [(&str, &str, &str); 16] = [
         // The text, the stretches of its nodes, and the offsets of its imports.
         ("x", " 0-1()", ""),
         ("-- a line\n1", " 10-11()", ""),
@@ -94,6 +94,29 @@ fn places_are_found(rt: HostRuntime) -> Result<(), Fail> {
         ("(merge h u) : T", " 0-15( 1-10( 7-8() 9-10()) 14-15())", ""),
         ("merge h u : T", " 0-13( 6-7() 8-9() 12-13())", ""),
         ("\"${./b}\"", " 0-8( 3-6())", " 6"),
+        // Texts with faults of types, which are told by these places.
+        (
+            "\u{3bb}(x : Bool) \u{2192} x + 1",
+            " 0-22( 7-11() 17-22( 17-18() 21-22()))",
+            "",
+        ),
+        (
+            "let x = 1 in x && True",
+            " 0-22( 8-9() 13-22( 13-14() 18-22()))",
+            "",
+        ),
+        ("1 + True", " 0-8( 0-1() 4-8())", ""),
+        (
+            "assert : 1 + 1 === 3",
+            " 0-20( 9-20( 9-14( 9-10() 13-14()) 19-20()))",
+            "",
+        ),
+        // A label alone is a variable; the record of a later key begins with it; entries of one label are joined.
+        (
+            "{ x, a.b = ./v, a = y }",
+            " 0-23( 5-21( 7-14( 11-14()) 20-21()) 2-3())",
+            " 14",
+        ),
         ("1+2", "syntax at 1", "syntax at 1"),
     ];
     for (text, stretches, imports) in table {
@@ -106,7 +129,7 @@ fn places_are_found(rt: HostRuntime) -> Result<(), Fail> {
 }
 
 /// A piece so many times, the middle, and another piece so many times.
-fn repeated(
+pub(crate) fn repeated(
     alloc: Global,
     times: usize,
     before: &str,

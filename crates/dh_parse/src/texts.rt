@@ -1,7 +1,8 @@
 //! From the bytes of a text to the expression that they spell.
 #![tactic(none)]
 
-ghost use Rattle.std.specs.Prelude.{◌≡◌, ◌≢◌, ◌≤◌, List, Ok, Err, IfOk, IfErr, Result, length};
+ghost use Rattle.std.specs.Prelude.{◌≡◌, ◌≢◌, ◌<◌, ◌≤◌, ◌^◌, List, Ok, Err, IfOk, IfErr, Result, length};
+ghost use Rattle.dh_grammar.specs.Ends.{EndsLast};
 ghost use Rattle.dh_grammar.specs.Parsed.{answered, parsed, parsed_lex, parsed_tokens};
 ghost use Rattle.dh_grammar.specs.Reading.{accepted};
 ghost use Rattle.dh_operands.specs.Operands.{operand_of};
@@ -36,6 +37,8 @@ fn expression_of(operand: Operand) -> Result<Expr, ParseFault>
 
 /// The expression that the tokens of a text spell.
 fn parse_tokens(alloc: Global, tokens: Tokens) -> Result<Expr, ParseFault>
+    requires ends { EndsLast tokens }
+    requires few { length tokens < 2 ^ 32 }
     ensures { Answers (parsed_tokens tokens) result }
 {
     match read::<Expressions>(alloc, tokens) {

@@ -20,4 +20,6 @@ pub use runs::run_dhall;
 pub use words::read_words;
 
 #[cfg(test)]
+mod grammar_tests;
+#[cfg(test)]
 mod tests;

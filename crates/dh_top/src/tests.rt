@@ -9,7 +9,7 @@ use std::test::Fail;
 
 /// What one run wrote, and its status.
 #[derive(Drop)]
-struct Ran {
+pub(crate) struct Ran {
     out: Vec<u8>,
     err: Vec<u8>,
     status: Status,
@@ -17,13 +17,13 @@ struct Ran {
 
 /// The numbers of the calls that fail, on each of the three streams.
 #[derive(Clone, Copy)]
-struct Failing {
+pub(crate) struct Failing {
     read: u64,
     out: u64,
     err: u64,
 }
 
-const NONE: Failing = Failing {
+pub(crate) const NONE: Failing = Failing {
     read: 0,
     out: 0,
     err: 0,
@@ -37,7 +37,7 @@ fn words_of(alloc: Global, words: &[&str]) -> Result<Vec<String>, AllocError> {
     Ok(all)
 }
 
-fn run_in_memory(
+pub(crate) fn run_in_memory(
     alloc: Global,
     words: &[&str],
     input: &[u8],
@@ -56,7 +56,7 @@ fn run_in_memory(
     })
 }
 
-fn expect(rt: &(impl Abort + Eprint), ran: &Ran, out: &[u8], err: &str, status: Status) {
+pub(crate) fn expect(rt: &(impl Abort + Eprint), ran: &Ran, out: &[u8], err: &str, status: Status) {
     assert_eq!(rt; ran.out.as_slice(), out);
     assert_eq!(rt; ran.err.as_slice(), err.as_bytes());
     assert_eq!(rt; ran.status, status);
@@ -179,9 +179,13 @@ fn decodes_expressions(rt: HostRuntime) -> Result<(), Fail> {
 
 #[test]
 fn refuses_bytes(rt: HostRuntime) -> Result<(), Fail> {
-    let table: [(&[u8], &str); 6] = [
-        (&[], "cut at 0\n"),
-        (&SUM[..5], "cut at 5\n"),
+    for len in 0..SUM.len() {
+        let line = format!(in rt.alloc(); "cut at {len}\n")?;
+        let ran = run_in_memory(rt.alloc(), &["decode"], &SUM[..len], NONE)?;
+        expect(&rt, &ran, &[], line.as_str(), Status::Text);
+    }
+    let table: [(&[u8], &str); 5] = [
+        (b"\x9b\xff\xff\xff\xff\xff\xff\xff\xff", "cut at 9\n"),
         (
             &[0x84, 3, 4, 0x82, 15, 1, 0x82, 15, 2, 0],
             "bytes left at 9\n",
@@ -197,6 +201,13 @@ fn refuses_bytes(rt: HostRuntime) -> Result<(), Fail> {
         let ran = run_in_memory(rt.alloc(), &["decode"], bytes, NONE)?;
         expect(&rt, &ran, &[], line, Status::Text);
     }
+    let mut deep = Vec::new(rt.alloc());
+    for _ in 0..501 {
+        deep.extend_from_slice(&[0x82, 0x13])?;
+    }
+    deep.push(0xF5)?;
+    let ran = run_in_memory(rt.alloc(), &["decode"], deep.as_slice(), NONE)?;
+    expect(&rt, &ran, &[], "nested deeper than 500\n", Status::Text);
     let large = vec![in rt.alloc(); 0xF5u8; 1_048_577]?;
     let ran = run_in_memory(rt.alloc(), &["decode"], large.as_slice(), NONE)?;
     expect(&rt, &ran, &[], "larger than 1048576 bytes\n", Status::Text);

@@ -10,15 +10,11 @@ use Rattle.dh_grammar.specs.Machine.{need, have, wait, done, stopped}
 use Rattle.dh_grammar.specs.Reading.{runs_still, Outcome, unfinished, refused, nested, reading, outcome_of}
 use Rattle.dh_grammar.specs.Running.{step}
 use Rattle.dh_grammar.specs.Trees.{trees, after, gap_at, depth_at}
-use Rattle.dh_grammar.proofs.Results.Ending.{IsEnded, end_ends}
+use Rattle.dh_grammar.specs.Ends.{EndsLast, IsEnded}
+use Rattle.dh_grammar.proofs.Results.Ending.{end_ends}
 use Rattle.dh_grammar.proofs.TruthValues.{by_test}
 use Rattle.dh_syntax.specs.Text.Derivation.{Derivation}
 use Rattle.dh_grammar.specs.Trees as trees
-
-abbrev pub EndsLast : List Token → Type 0
-EndsLast [] = ⊥
-EndsLast (t ∷ []) = t.kind ≡ kinds.End
-EndsLast (t ∷ u ∷ ts) = EndsLast (u ∷ ts)
 
 abbrev Ends : Result (List Token) LexFault → Type 0
 Ends (Ok ts) = EndsLast ts
@@ -64,7 +60,7 @@ reached_end (have st x) e r = e
 reached_end (wait w st) e r = e
 
 ended_step : (s : trees.State) (t : Token) → t.kind ≡ kinds.End → IsEnded (step s t)
-ended_step s t e = by_test IsEnded (not (gap_at s t.kind) || t.gap) (after t.kind s) stopped (λ b. subst (λ k. IsEnded (after k s)) (sym e) (end_ends s)) (λ b. tt)
+ended_step s t e = by_test IsEnded (not (gap_at s t.kind) || t.gap) (after t.kind s) stopped (λ b. subst (λ k. IsEnded (after k s)) (sym e) (end_ends trees s)) (λ b. tt)
 
 pub reached : (ts : List Token) (s : trees.State) → EndsLast ts → IsReached (reading trees s ts)
 reached [] s h = absurd h

@@ -11,3 +11,9 @@ returns-in-Ok c = moved _ _ _ (ap answered (sym (by_kinds stubs 0 (need []) c.ar
 
 pub returns-in-Err : goal.returns-in-Err
 returns-in-Err c = moved _ _ (Err c.in-Err.fault) (ap answered (sym (by_kinds stubs 0 (need []) c.args.tokens))) (faulted _ _ c.in-Err.ensures.fault)
+
+pub read-requires-clause-ends : goal.read-requires-clause-ends
+read-requires-clause-ends c = c.requires.ends
+
+pub read-requires-clause-few : goal.read-requires-clause-few
+read-requires-clause-few c = c.requires.few
