@@ -45,7 +45,7 @@ fn tell_failure<E: Sink>(err: &mut E)
 }
 
 /// Writes what a reply has for the two outputs, and answers how the run ended.
-pub(crate) fn deliver<O: Sink, E: Sink>(
+pub fn deliver<O: Sink, E: Sink>(
     to_out: &[u8],
     to_err: &[u8],
     status: Status,

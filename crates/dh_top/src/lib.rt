@@ -16,6 +16,7 @@ mod replies;
 mod runs;
 mod words;
 
+pub use delivery::deliver;
 pub use runs::run_dhall;
 pub use words::read_words;
 

@@ -1,13 +1,17 @@
 //! The standard streams as a feed and as sinks: interrupted calls are made again, failed ones are counted.
 
-ghost use Rattle.std.specs.Prelude.{ℕ, ◌≤◌, ◌<◌, length, IfSome};
+ghost use Rattle.std.specs.Prelude.{◌≡◌, ℕ, ◌≤◌, ◌<◌, length, take, IfNone, IfSome};
+ghost use Rattle.std.specs.Io.KnownBytes.{Appends, Consumes, IsAtEnd, Keeps};
 
 use dh_ports::{Feed, ReadError, Sink, WriteError};
 use std::io::{ErrorKind, Read, Write};
 
 /// Reads once, again after each interruption. `None` where the reader fails.
 fn read_through<R: Read>(reader: &mut R, into: &mut [u8]) -> Option<usize>
-    ensures { IfSome result (λ n. n ≤ length into.new) }
+    ensures bound { IfSome result (λ n. n ≤ length into.new) }
+    ensures taken { IfSome result (λ n. Consumes (R.remaining reader.old) (R.remaining reader.new) (take n into.new)) }
+    ensures end { IfSome result (λ n. n ≡ 0 → 0 < length into.new → IsAtEnd (R.remaining reader.new)) }
+    ensures kept { IfNone result (Keeps (R.remaining reader.old) (R.remaining reader.new)) }
 {
     for _ in 0..u64::MAX {
         match reader.read(into) {
@@ -23,6 +27,8 @@ fn read_through<R: Read>(reader: &mut R, into: &mut [u8]) -> Option<usize>
 fn write_through<W: Write>(writer: &mut W, bytes: &[u8]) -> Option<usize>
     ensures bound { IfSome result (λ n. n ≤ length bytes.now) }
     ensures goes_on { IfSome result (λ n. 0 < length bytes.now → 0 < n) }
+    ensures taken { IfSome result (λ n. Appends (W.contents writer.old) (W.contents writer.new) (take n bytes.now)) }
+    ensures kept { IfNone result (Keeps (W.contents writer.old) (W.contents writer.new)) }
 {
     for _ in 0..u64::MAX {
         match writer.write(bytes) {
@@ -34,7 +40,7 @@ fn write_through<W: Write>(writer: &mut W, bytes: &[u8]) -> Option<usize>
     None
 }
 
-/// A feed over a reader of the system, whose contents nothing is known of.
+/// A feed over a reader. What it has left is what the reader has, where the reader tells; those of the system do not.
 #[derive(Drop)]
 pub struct Source<R> {
     reader: R,
@@ -42,12 +48,16 @@ pub struct Source<R> {
 }
 
 impl<R> Source<R> {
-    pub fn new(reader: R) -> Source<R> {
+    pub fn new(reader: R) -> Source<R>
+        ensures { result ≡ record { reader = reader; failed = 0 } }
+    {
         Source { reader, failed: 0 }
     }
 }
 
 impl<R: Read> Feed for Source<R> {
+    ghost left = { λ s. R.remaining s.reader };
+
     ghost faults = { λ s. s.failed };
 
     fn read(&mut self, into: &mut [u8]) -> Result<usize, ReadError> {
@@ -61,7 +71,7 @@ impl<R: Read> Feed for Source<R> {
     }
 }
 
-/// A sink over a writer of the system, of whose contents nothing is known.
+/// A sink over a writer. What was written is what the writer holds, where the writer tells; those of the system do not.
 #[derive(Drop)]
 pub struct Target<W> {
     writer: W,
@@ -69,12 +79,16 @@ pub struct Target<W> {
 }
 
 impl<W> Target<W> {
-    pub fn new(writer: W) -> Target<W> {
+    pub fn new(writer: W) -> Target<W>
+        ensures { result ≡ record { writer = writer; failed = 0 } }
+    {
         Target { writer, failed: 0 }
     }
 }
 
 impl<W: Write> Sink for Target<W> {
+    ghost written = { λ t. W.contents t.writer };
+
     ghost faults = { λ t. t.failed };
 
     fn write(&mut self, bytes: &[u8]) -> Result<usize, WriteError> {
