@@ -3,5 +3,7 @@ pub mod Histories
 pub mod Logs
 pub mod Stepping
 pub mod NewKeys
+pub mod Reading
+pub mod Reaching
 pub mod Beginnings
 pub mod Distinct

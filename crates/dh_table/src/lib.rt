@@ -9,12 +9,15 @@ mod entering;
 mod entrants;
 mod entries;
 mod items;
+mod lookups;
 mod news;
 mod numbers;
 mod opening;
+mod plans;
 mod steps;
 mod tables;
 mod texts;
+mod visits;
 
 pub use entries::{Entry, Seen};
 pub use items::{Body, Done, Item};
