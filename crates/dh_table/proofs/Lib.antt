@@ -4,6 +4,8 @@ pub mod Logs
 pub mod Stepping
 pub mod NewKeys
 pub mod Reading
+pub mod Seeing
+pub mod Tasks
 pub mod Reaching
 pub mod Beginnings
 pub mod Distinct

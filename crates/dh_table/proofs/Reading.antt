@@ -30,7 +30,7 @@ use Rattle.dh_table.proofs.Logs.{latest}
 
 -- ---- lists that grow at their end, looked up with the latest first
 
-later : {X A B : Type 0} (same : A → A → Bool) (f : X → A × B) (xs : List X) (i : ℕ) (d : X) (a : A) → i < length xs
+pub later : {X A B : Type 0} (same : A → A → Bool) (f : X → A × B) (xs : List X) (i : ℕ) (d : X) (a : A) → i < length xs
     → lookup same (reverse (map f (take (i + 1) xs))) a ≡ (if same (f (get_or xs i d)).0 a then Some (f (get_or xs i d)).1 else lookup same (reverse (map f (take i xs))) a)
 later same f xs i d a h = ap (λ ys. lookup same (reverse (map f ys)) a) (take_more xs i d h) ∙ ap (λ ys. lookup same ys a) (latest f (take i xs) (get_or xs i d))
 
@@ -83,6 +83,9 @@ mode-limits r k modes.Code = fetch-limits r k false (unfetched k.loc)
 digest-limits : (r : Record) (k : Key) (d : Option Digest) → plan_digest r k d ≡ plan_digest (record r { limits = [] }) k d
 digest-limits r k None = mode-limits r k k.mode
 digest-limits r k (Some d) = refl
+
+pub plan_limits : (r : Record) (k : Key) → plan r k ≡ plan (record r { limits = [] }) k
+plan_limits r k = digest-limits r k k.digest
 
 -- ---- the wants of a text have numbers
 

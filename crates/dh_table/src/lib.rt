@@ -14,6 +14,8 @@ mod news;
 mod numbers;
 mod opening;
 mod plans;
+mod sameness;
+mod searches;
 mod steps;
 mod tables;
 mod texts;

@@ -1,18 +1,15 @@
 //! The table.
 
-ghost use Rattle.std.specs.Prelude.{◌≡◌, ◌+◌, ◌≤◌, ◌<◌, ◌++◌, ◌∷◌, [], ℕ, suc, List, length, map, reverse, None, IsOk, OnOk, vec_len, vec_capacity};
-ghost use Rattle.std.specs.Option.{option_map};
-ghost use Rattle.dh_syntax.specs.Expressions.Numbers.{eq};
+ghost use Rattle.std.specs.Prelude.{◌≡◌, ◌+◌, ◌≤◌, ◌<◌, ◌++◌, ◌∷◌, [], suc, length, None, IsOk, OnOk, vec_len, vec_capacity};
 ghost use Rattle.dh_syntax.specs.Imports.Machine as machine;
 ghost use Rattle.dh_syntax.specs.Imports.Machine.{Task, IsOpen, root_walk, InFlight, IsInTime, effect};
-ghost use Rattle.dh_syntax.specs.Imports.Records.{lookup};
-ghost use Rattle.dh_table.specs.declared.texts.Entrant.{Entrant};
 ghost use Rattle.dh_table.specs.Calls.{Adds, IsSame, Releases};
 ghost use Rattle.dh_demand.specs.Nexts.{IsNext, IsInside};
-ghost use Rattle.dh_table.specs.States.{rows_of, state_of, task_of, flight_of, news_of};
+ghost use Rattle.dh_table.specs.States.{rows_of, state_of, task_of, news_of};
 
 use crate::entrants::Entrants;
 use crate::news::News;
+use crate::sameness::job_of;
 use crate::steps::{Flight, Job, Kind, Step};
 use crate::texts::{Look, Text};
 use dh_demand::{Next, Results, Scan, next};
@@ -183,17 +180,4 @@ impl<W> Results for Table<W> {
     fn key(&self, key: u32) -> &Key {
         self.keys.key(key)
     }
-}
-
-// The task in flight under a serial: the last one.
-fn job_of(flights: &[Flight], serial: u64) -> Option<Job>
-    ensures { (keys : List Entrant) → option_map (task_of keys) result ≡ lookup eq (reverse (map (flight_of keys) flights.now)) serial }
-{
-    let mut found = None;
-    for flight in flights {
-        if flight.serial == serial {
-            found = Some(flight.job);
-        }
-    }
-    found
 }
