@@ -1,5 +1,5 @@
 -- The search for an open task.
-use Rattle.std.specs.Prelude.{◌≡◌, ◌<◌, ℕ, suc, Bool, true, false, List, [], ◌∷◌, length, map, reverse, slice_index_or, Option, Some, None}
+use Rattle.std.specs.Prelude.{◌≡◌, ◌<◌, ℕ, Bool, true, false, if◌then◌else◌, sum_by, List, length, map, reverse, slice_index_or, Option, Some, None}
 use Rattle.dh_syntax.specs.declared.locations.Key.{Key}
 use Rattle.dh_syntax.specs.Expressions.Bridge.{term}
 use Rattle.dh_syntax.specs.Expressions.Numbers.{eq}
@@ -84,8 +84,9 @@ IsPassed s keys flights marks seen (passes.Open j) = IsJob s keys j
 IsPassed s keys flights marks seen passes.Further = IsExplored s keys flights marks seen
 IsPassed s keys flights marks seen passes.Still = IsExplored s keys flights marks seen × IsStill marks seen
 
+abbrev pub one_unless : Bool → ℕ
+one_unless b = if b then 0 else 1
+
 -- how many were not seen
 abbrev pub unseen : List Bool → ℕ
-unseen [] = 0
-unseen (true ∷ bs) = unseen bs
-unseen (false ∷ bs) = suc (unseen bs)
+unseen bs = sum_by one_unless bs
