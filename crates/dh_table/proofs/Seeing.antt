@@ -15,7 +15,10 @@ use Rattle.dh_syntax.specs.Imports.Records.{Record, lookup}
 use Rattle.dh_syntax.specs.Imports.Resolver.{plan, plan_fetch, plan_mode, plan_digest, unfetched, of_plan, stage, Stage, TextOf, LookOf, Lacks, Has, Meets, Waits}
 use Rattle.dh_syntax.specs.Imports.Walk.{wants}
 use Rattle.dh_syntax.specs.Imports.Machine.{leads_by}
+use Rattle.dh_syntax.specs.Expressions.Tree.{Term}
+use Rattle.dh_demand.specs.declared.scans.Edge.{Edge}
 use Rattle.dh_demand.specs.Results.{Row, number_of, ask_of}
+use Rattle.dh_demand.specs.Scans.{Fits}
 use Rattle.dh_demand.specs.Wants.{AreMarked, HasNumber}
 use Rattle.dh_table.specs.declared.searches.Pass.TheVariants as passes
 use Rattle.dh_table.specs.declared.steps.Flight.{Flight}
@@ -30,7 +33,7 @@ use Rattle.dh_table.specs.declared.visits.Reach.TheVariants as reaches
 use Rattle.dh_table.specs.Inside.Reading.{record_by, IsReach, IsNumbered}
 use Rattle.dh_table.specs.Inside.Searching.{Stands, Flies, IsTaskAt, is_set, IsMarked, IsSeen, IsExplored, IsStill, IsJob, IsFound, one_unless, unseen}
 use Rattle.dh_table.specs.States.{rows_of, key_named, digest_or_none, task_by, task_of, flight_of}
-use Rattle.dh_table.proofs.Reading.{number_names, plan_limits}
+use Rattle.dh_table.proofs.Reading.{number_names, plan_limits, wants_numbered}
 
 -- ---- a state by the parts of a table
 
@@ -232,3 +235,42 @@ module _ (keys : List Entrant) (texts : List Text) (looks' : List Look) (flights
         seen_is = seen_is;
         tasks = tasks;
       }
+
+-- ---- the first keys, and the last
+
+module _ (keys : List Entrant) (texts : List Text) (looks' : List Look) (flights : List Flight) (s : State) (p : Stands keys texts looks' flights s) (root : Term) (edges : List Edge) (root_is : s.root ≡ root) (fits : Fits None (rows_of keys) root edges) where
+  root_wants : wants None (outcome_of s) s.root ≡ wants None (ask_of (rows_of keys)) root
+  root_wants = λ i. wants None (p.asks i) (root_is i)
+
+  pub first_explored : (size others : ℕ) (old marks seen : List Bool) → length keys ≤ size → old ≡ replicate size false → AreMarked (rows_of keys) (wants None (ask_of (rows_of keys)) root) old marks → seen ≡ replicate others false
+      → IsExplored s keys flights marks seen
+  first_explored size others old marks seen fit old_is m seen_is = record {
+    by_root =
+        λ k q.
+        let w = subst (IsAmong k) root_wants q in
+        let x = wants_numbered None (rows_of keys) (ask_of (rows_of keys)) root edges k fits w in
+        let inside = number_names keys k x.0 x.1 in
+        let l : x.0 < length old = let a = inside.0 in let b = ap length old_is ∙ length-replicate size false in omega arith in
+        record { number = x.0; number_is = x.1; set = m.set x.0 l (k, w, x.1) };
+    sound =
+        λ n h.
+        elim (m.only n h) [
+          | inl o ↦ absurd (nothing_set size n (subst (λ bs. is_set bs n ≡ true) old_is o))
+          | inr (j, w, q) ↦ (let inside = number_names keys j n q in (inside.0, subst (Wanted s) (sym inside.1) (by_root (subst (IsAmong j) (sym root_wants) w))))
+        ];
+    closed = λ n h. absurd (nothing_set others n (subst (λ bs. is_set bs n ≡ true) seen_is h));
+  }
+
+module _ (keys : List Entrant) (texts : List Text) (looks' : List Look) (flights : List Flight) (s : State) (p : Stands keys texts looks' flights s) (marks seen : List Bool) (e : IsExplored s keys flights marks seen) (still : IsStill marks seen) where
+  seen_key : (k : Key) → IsMarked keys marks k → IsSeen s keys flights marks k
+  seen_key k m = subst (IsSeen s keys flights marks) (number_names keys k m.number m.number_is).1 (e.closed m.number (still m.number m.set))
+
+  wanted_marked : {k : Key} → Wanted s k → IsMarked keys marks k
+  wanted_marked {k} (by_root m) = e.by_root k m
+  wanted_marked {k} (by_key {j = j} w m) = (seen_key j (wanted_marked w)).leads k m
+
+  pub none_open : (t : Task) → ¬ IsOpen s t
+  none_open t o =
+      let a = task_at s t o.due in
+      let f = flies_stands keys texts looks' flights s p t ((seen_key a.key (wanted_marked a.wanted)).tasks t a.due) in
+      o.free f.0 f.1
