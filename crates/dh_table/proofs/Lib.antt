@@ -4,6 +4,7 @@ pub mod Logs
 pub mod Stepping
 pub mod NewKeys
 pub mod Reading
+pub mod Looping
 pub mod Seeing
 pub mod Tasks
 pub mod Reaching

@@ -59,7 +59,7 @@ impl<W> Model for Table<W> {
 }
 
 /// Adds an element where there is room.
-fn put<T: Drop>(v: &mut Vec<T>, x: T)
+pub(crate) fn put<T: Drop>(v: &mut Vec<T>, x: T)
     requires { vec_len v.old < vec_capacity v.old }
     ensures items { v.new.items ≡ v.old.items ++ x ∷ [] }
     ensures len { vec_len v.new ≡ vec_len v.old + 1 }

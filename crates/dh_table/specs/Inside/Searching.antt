@@ -1,13 +1,13 @@
 -- The search for an open task.
-use Rattle.std.specs.Prelude.{◌≡◌, ◌<◌, ℕ, Bool, true, false, if◌then◌else◌, sum_by, List, length, map, reverse, slice_index_or, Option, Some, None}
+use Rattle.std.specs.Prelude.{◌≡◌, ◌⊎◌, ◌<◌, ℕ, Bool, true, false, if◌then◌else◌, sum_by, List, [], length, map, reverse, slice_index_or, Option, Some, None}
 use Rattle.dh_syntax.specs.declared.locations.Key.{Key}
 use Rattle.dh_syntax.specs.Expressions.Bridge.{term}
 use Rattle.dh_syntax.specs.Expressions.Numbers.{eq}
 use Rattle.dh_syntax.specs.Imports.Machine as machine
-use Rattle.dh_syntax.specs.Imports.Machine.{IsAmong, Task, State, InFlight, IsOpen, Wanted, leads_to, outcome_of, stage_of}
+use Rattle.dh_syntax.specs.Imports.Machine.{IsAmong, Task, State, IsOpen, Wanted, Blocks, Cycled, May, effect, leads_to, outcome_of, root_walk, stage_of}
 use Rattle.dh_syntax.specs.Imports.Records.{lookup}
 use Rattle.dh_syntax.specs.Imports.Resolver.{TextOf, LookOf, Lacks, Has, Meets, Waits, Stage}
-use Rattle.dh_syntax.specs.Imports.Walk.{wants}
+use Rattle.dh_syntax.specs.Imports.Walk.{Turns, wants}
 use Rattle.dh_demand.specs.declared.scans.Scan.{Scan}
 use Rattle.dh_demand.specs.Results.{ask_of}
 use Rattle.dh_demand.specs.Wants.{HasNumber}
@@ -90,3 +90,21 @@ one_unless b = if b then 0 else 1
 -- how many were not seen
 abbrev pub unseen : List Bool → ℕ
 unseen bs = sum_by one_unless bs
+
+-- ---- loops
+
+-- nothing is in flight, no task is open, and the key is wanted
+pub record IsStuck (keys : List Entrant) (texts : List Text) (looks : List Look) (s : State) (k : Key) : Type 0 where
+  pub stands : Stands keys texts looks [] s
+  pub none : (t : Task) → ¬ IsOpen s t
+  pub wanted : Wanted s k
+
+-- so is the key for which it waits
+pub record IsNextStuck (keys : List Entrant) (texts : List Text) (looks : List Look) (s : State) (k j : Key) : Type 0 where
+  pub blocks : Blocks s.recorded (outcome_of s) k j
+  pub stuck : IsStuck keys texts looks s j
+
+-- a loop may be marked at the key; then it decides the root, or a task is open
+pub record IsLoop (s : State) (j : Key) : Type 0 where
+  pub may : May (Cycled j) s
+  pub goes_on : (root_walk (effect (Cycled j) s) ≡ Turns j) ⊎ ((t : Task) × IsOpen (effect (Cycled j) s) t)
