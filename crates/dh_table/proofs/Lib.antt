@@ -4,6 +4,8 @@ pub mod Logs
 pub mod Stepping
 pub mod NewKeys
 pub mod Reading
+pub mod Deciding
+pub mod RootEnds
 pub mod Looping
 pub mod Seeing
 pub mod Tasks
