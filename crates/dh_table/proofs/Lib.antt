@@ -4,6 +4,7 @@ pub mod Logs
 pub mod Stepping
 pub mod NewKeys
 pub mod Reading
+pub mod Claiming
 pub mod Deciding
 pub mod RootEnds
 pub mod Looping

@@ -175,8 +175,8 @@ module _ (s : State) (keys : List Entrant) (flights : List Flight) (n : ℕ) (ma
       elim (c.marked.only x h) [
         | inl old ↦ e.sound x old
         | inr (j, m, q) ↦
-        let inside = number_names keys j x q in
-        (inside.0, subst (Wanted s) (sym inside.1) (by_key (e.sound n c.set).1 m))
+            let inside = number_names keys j x q in
+            (inside.0, subst (Wanted s) (sym inside.1) (by_key (e.sound n c.set).1 m))
       ]
 
   see_kept : (k : Key) → IsSeen s keys flights marks k → IsSeen s keys flights marks' k

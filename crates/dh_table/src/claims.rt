@@ -1,18 +1,17 @@
 //! Claims: the next task of a run.
 
-ghost use Rattle.std.specs.Prelude.{◌≡◌, ◌<◌, ◌≤◌, ◌+◌, ◌∷◌, ◌↔◌, [], IsTrue, IsSome, None, length};
-ghost use Rattle.dh_syntax.specs.Imports.Machine as machine;
-ghost use Rattle.dh_syntax.specs.Imports.Machine.{Task, May, IsOpen, effect, root_walk};
+ghost use Rattle.std.specs.Prelude.{◌≡◌, ◌<◌, ◌≤◌, ◌+◌, ◌↔◌, [], IsTrue, IsSome, IsNone, IfSome, None, length};
+ghost use Rattle.dh_syntax.specs.Imports.Machine.{Task, IsOpen, root_walk};
 ghost use Rattle.dh_syntax.specs.Imports.Walk.{Needs};
 ghost use Rattle.dh_syntax.specs.Imports.Replay.{root_end};
-ghost use Rattle.dh_table.specs.Calls.{Adds, Claims};
+ghost use Rattle.dh_table.specs.Calls.{Claims};
 ghost use Rattle.dh_table.specs.Inside.Searching.{IsFound, IsLoop};
 ghost use Rattle.dh_table.specs.States.{key_named, state_of};
 
 use crate::loops::least_of_loop;
 use crate::searches::find_open;
-use crate::steps::{Job, Step};
-use crate::tables::{Table, Ticket, put};
+use crate::steps::Job;
+use crate::tables::{Table, Ticket};
 use dh_demand::Next;
 use dh_syntax::MOST_KEYS;
 
@@ -92,5 +91,61 @@ impl<W> Table<W> {
             &mut scratch.marks,
             &mut scratch.trail,
         )
+    }
+
+    // The number of the key that the root needs, where it is undecided.
+    fn need(&self) -> Option<u32>
+        ensures none { IsNone result ↔ IsSome (root_end (state_of self.now)) }
+        ensures some { IfSome result (λ n. (n < length self.now.keys) × (root_walk (state_of self.now) ≡ Needs (key_named self.now.keys n))) }
+    {
+        if self.keys.len() > MOST_KEYS {
+            return None;
+        }
+        match self.root_next() {
+            Next::Need(key) => Some(key),
+            Next::Ready | Next::Fault(_) => None,
+        }
+    }
+
+    /// The task of a key that the root wants and that waits for no other key. Where no task is open and none is in flight, the
+    /// loop into which the root's blocking keys lead is marked first. It takes no memory.
+    pub fn claim(&mut self, worker: u32) -> Claimed
+        requires { length self.old.flights + 3 ≤ self.old.spare }
+        ensures { Claims worker self.old self.new result }
+    {
+        match self.need() {
+            None => Claimed::Over,
+            Some(key) => match self.find() {
+                Some(job) => Claimed::Task(self.draw(worker, job)),
+                None => {
+                    if self.in_flight() > 0 {
+                        Claimed::Idle
+                    } else {
+                        self.claim_past_loop(worker, key)
+                    }
+                }
+            },
+        }
+    }
+
+    // The claim where no task is open and nothing is in flight: a loop is marked first.
+    fn claim_past_loop(&mut self, worker: u32, first: u32) -> Claimed
+        requires room { length self.old.flights + 3 ≤ self.old.spare }
+        requires idle { (state_of self.old).flights ≡ [] }
+        requires none { (t : Task) → ¬ IsOpen (state_of self.old) t }
+        requires undecided { root_end (state_of self.old) ≡ None }
+        requires needs { root_walk (state_of self.old) ≡ Needs (key_named self.old.keys first) }
+        requires inside { first < length self.old.keys }
+        ensures { Claims worker self.old self.new result }
+    {
+        let key = self.find_loop(first);
+        self.mark(key);
+        if self.is_over() {
+            return Claimed::Over;
+        }
+        match self.find() {
+            Some(job) => Claimed::Task(self.draw(worker, job)),
+            None => unreachable!(),
+        }
     }
 }

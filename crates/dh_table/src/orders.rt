@@ -30,7 +30,8 @@ fn is_key_before(j: &Key, k: &Key) -> bool
 fn is_frozen_before(j: &Key, k: &Key) -> bool
     ensures { result ≡ texts_before (digest_rank j.now.digest ∷ loc_rank j.now.loc) (digest_rank k.now.digest ∷ loc_rank k.now.loc) }
 {
-    is_digest_before(&j.digest, &k.digest) || is_same_digest(&j.digest, &k.digest) && is_loc_before(&j.loc, &k.loc)
+    is_digest_before(&j.digest, &k.digest)
+        || is_same_digest(&j.digest, &k.digest) && is_loc_before(&j.loc, &k.loc)
 }
 
 fn is_before(x: &Piece, y: &Piece) -> bool
@@ -165,7 +166,8 @@ fn is_url_before(u: &Url, v: &Url) -> bool
 fn is_path_before(u: &Url, v: &Url) -> bool
     ensures { result ≡ texts_before (query_rank u.now.query ∷ u.now.comps) (query_rank v.now.query ∷ v.now.comps) }
 {
-    is_query_before(&u.query, &v.query) || is_same_query(&u.query, &v.query) && are_before(u.comps.as_slice(), v.comps.as_slice())
+    is_query_before(&u.query, &v.query)
+        || is_same_query(&u.query, &v.query) && are_before(u.comps.as_slice(), v.comps.as_slice())
 }
 
 fn is_loc_before(a: &Loc, b: &Loc) -> bool
@@ -188,7 +190,13 @@ fn is_abs_before(x: &Comps, b: &Loc) -> bool
 {
     match b {
         Loc::Abs(y) => are_before(x.as_slice(), y.as_slice()),
-        Loc::Here(_) | Loc::Parent(_) | Loc::Home(_) | Loc::Http(_) | Loc::Https(_) | Loc::Env(_) | Loc::Missing => true,
+        Loc::Here(_)
+        | Loc::Parent(_)
+        | Loc::Home(_)
+        | Loc::Http(_)
+        | Loc::Https(_)
+        | Loc::Env(_)
+        | Loc::Missing => true,
     }
 }
 
@@ -198,7 +206,8 @@ fn is_here_before(x: &Comps, b: &Loc) -> bool
     match b {
         Loc::Here(y) => are_before(x.as_slice(), y.as_slice()),
         Loc::Abs(_) => false,
-        Loc::Parent(_) | Loc::Home(_) | Loc::Http(_) | Loc::Https(_) | Loc::Env(_) | Loc::Missing => true,
+        Loc::Parent(_) | Loc::Home(_) | Loc::Http(_) | Loc::Https(_) | Loc::Env(_) | Loc::Missing =>
+            true,
     }
 }
 
@@ -247,7 +256,8 @@ fn is_env_before(x: &Piece, b: &Loc) -> bool
 {
     match b {
         Loc::Env(y) => is_before(x, y),
-        Loc::Abs(_) | Loc::Here(_) | Loc::Parent(_) | Loc::Home(_) | Loc::Http(_) | Loc::Https(_) => false,
+        Loc::Abs(_) | Loc::Here(_) | Loc::Parent(_) | Loc::Home(_) | Loc::Http(_) | Loc::Https(_) =>
+            false,
         Loc::Missing => true,
     }
 }

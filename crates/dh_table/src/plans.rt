@@ -39,12 +39,7 @@ pub(crate) enum Plan<'a> {
 }
 
 /// What is recorded for the key of this number.
-pub(crate) fn plan_of<'a>(
-    keys: &Entrants,
-    texts: &'a [Text],
-    looks: &[Look],
-    n: u32,
-) -> Plan<'a>
+pub(crate) fn plan_of<'a>(keys: &Entrants, texts: &'a [Text], looks: &[Look], n: u32) -> Plan<'a>
     requires inside { n < length keys.now }
     requires listed { All (IsListed (rows_of keys.now)) keys.now }
     requires read { All (IsRead (rows_of keys.now)) texts.now }

@@ -22,10 +22,6 @@ impl Scratch {
         let marks = Marks::of(vec![in alloc; false; keys]?);
         let seen = Marks::of(vec![in alloc; false; keys]?);
         let trail = Vec::with_capacity(alloc, keys)?;
-        Ok(Scratch {
-            marks,
-            seen,
-            trail,
-        })
+        Ok(Scratch { marks, seen, trail })
     }
 }

@@ -16,8 +16,8 @@ loop-look-preserved c =
     let d = c.args.digest.now in
     elim c.if-is_same_digest.branch [
       | then-is_same_digest w ↦
-      ap (λ o. option_map seen_of (option_copied o)) w.found-is ∙ named_here digest_eq look_of looks i x d c.loop-look-test.true c.look-item.is (sym c.is_same_digest.ensures ∙ w.if-is_same_digest.true)
+          ap (λ o. option_map seen_of (option_copied o)) w.found-is ∙ named_here digest_eq look_of looks i x d c.loop-look-test.true c.look-item.is (sym c.is_same_digest.ensures ∙ w.if-is_same_digest.true)
       | else-is_same_digest w ↦
-      ap (λ o. option_map seen_of (option_copied o)) w.found-is
-      ∙ named_before digest_eq look_of looks i x d c.loop-look-test.true c.look-item.is (option_map seen_of (option_copied c.loop-look.found)) (sym c.is_same_digest.ensures ∙ w.if-is_same_digest.false) c.loop-look.invariant
+          ap (λ o. option_map seen_of (option_copied o)) w.found-is
+          ∙ named_before digest_eq look_of looks i x d c.loop-look-test.true c.look-item.is (option_map seen_of (option_copied c.loop-look.found)) (sym c.is_same_digest.ensures ∙ w.if-is_same_digest.false) c.loop-look.invariant
     ]

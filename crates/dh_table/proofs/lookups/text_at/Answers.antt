@@ -19,22 +19,22 @@ loop-text-preserved c =
     let l = c.args.loc.now in
     elim c.if-is_same_loc.branch [
       | then-is_same_loc w ↦
-      let same : loc_eq t.loc l ≡ true = sym c.is_same_loc.ensures ∙ w.if-is_same_loc.true in
-      record {
-        noted = ap (λ o. option_map noted_of (option_copied o)) w.found-is ∙ named_here loc_eq text_of texts i t l c.loop-text-test.true c.text-item.is same;
-        read =
-            λ rows h.
-            along (λ (o : Option Text). IfSome o (IsReadAt rows l)) (sym (ap option_copied w.found-is))
-            (record {
-              read = along (IsRead rows) (sym c.text-item.is) (All-get_or (IsRead rows) texts i t c.loop-text-test.true h);
-              loc_is = locs_tell.equal t.loc l same;
-            });
-      }
+          let same : loc_eq t.loc l ≡ true = sym c.is_same_loc.ensures ∙ w.if-is_same_loc.true in
+          record {
+            noted = ap (λ o. option_map noted_of (option_copied o)) w.found-is ∙ named_here loc_eq text_of texts i t l c.loop-text-test.true c.text-item.is same;
+            read =
+                λ rows h.
+                along (λ (o : Option Text). IfSome o (IsReadAt rows l)) (sym (ap option_copied w.found-is))
+                (record {
+                  read = along (IsRead rows) (sym c.text-item.is) (All-get_or (IsRead rows) texts i t c.loop-text-test.true h);
+                  loc_is = locs_tell.equal t.loc l same;
+                });
+          }
       | else-is_same_loc w ↦
-      record {
-        noted =
-            ap (λ o. option_map noted_of (option_copied o)) w.found-is
-            ∙ named_before loc_eq text_of texts i t l c.loop-text-test.true c.text-item.is (option_map noted_of (option_copied c.loop-text.found)) (sym c.is_same_loc.ensures ∙ w.if-is_same_loc.false) c.loop-text.invariant.noted;
-        read = λ rows h. along (λ (o : Option Text). IfSome o (IsReadAt rows l)) (sym (ap option_copied w.found-is)) (c.loop-text.invariant.read rows h);
-      }
+          record {
+            noted =
+                ap (λ o. option_map noted_of (option_copied o)) w.found-is
+                ∙ named_before loc_eq text_of texts i t l c.loop-text-test.true c.text-item.is (option_map noted_of (option_copied c.loop-text.found)) (sym c.is_same_loc.ensures ∙ w.if-is_same_loc.false) c.loop-text.invariant.noted;
+            read = λ rows h. along (λ (o : Option Text). IfSome o (IsReadAt rows l)) (sym (ap option_copied w.found-is)) (c.loop-text.invariant.read rows h);
+          }
     ]
