@@ -29,7 +29,7 @@ invariant_of-result g c =
     let edges = along (λ ks. AreEdges None (rows_of keys) ks c.in_ok-edges.edges) (c.as_slice.ensures ∙ c.in_ok-imports.ensures) c.in_ok-edges.ensures.edges in
     let known : IsKnown root keys c.new.result.items = along (λ (ts : _). IsKnown root keys ts) (sym c.new.ensures.items) (opened_known root keys m c.in_ok-edges.ensures.few edges) in
     let t =
-    view_of {W = g.row.W.Denot} (record { root = root; keys = keys; texts = c.new.result; looks = c.new-2.result; decided = c.new-3.result; limited = c.new-4.result; flights = c.new-5.result; drawn = c.new-6.result; history = c.new-7.result; refused = c.new-8.result; world = record {} }) in
+    view_of {W = g.row.W.Denot} (record { root = root; keys = keys; texts = c.new.result; looks = c.new-2.result; decided = c.new-3.result; limited = c.new-4.result; flights = c.new-5.result; drawn = c.new-6.result; history = c.new-7.result; refused = c.new-8.result; scratch = c.in_ok-scratch.scratch; world = record {} }) in
     let empty : IsEmpty t = record {
       texts = c.new.ensures.items;
       looks = c.new-2.ensures.items;
