@@ -168,14 +168,15 @@ module _ (s : State) (idle : s.flights ≡ []) (none : (t : Task) → ¬ IsOpen 
   open_at : (t : Task) → TaskOf s t → IsOpen s t
   open_at t d = record { due = d; free = λ n h. nothing_flies s.flights n t idle h }
 
-  waits_at : (k : Key) → Wanted s k → (x : Stage) → stage_of s k ≡ x → (y : Key) × (stage_of s k ≡ Waits y)
+  -- what a wanted key waits for
+  pub waits_at : (k : Key) → Wanted s k → (x : Stage) → stage_of s k ≡ x → (y : Key) × (stage_of s k ≡ Waits y)
   waits_at k w (Lacks (TextOf l)) e = absurd (none (Fetch l) (open_at (Fetch l) (fetches w e)))
   waits_at k w (Lacks (LookOf d)) e = absurd (none (Look d) (open_at (Look d) (looks w e)))
   waits_at k w (Has i) e = absurd (none (Finish k) (open_at (Finish k) (finishes w (subst IsDue (sym e) tt))))
   waits_at k w (Meets j) e = absurd (none (Finish k) (open_at (Finish k) (finishes w (subst IsDue (sym e) tt))))
   waits_at k w (Waits y) e = (y, e)
 
-  one : (x y z : Key) → To x y → To x z → y ≡ z
+  pub one : (x y z : Key) → To x y → To x z → y ≡ z
   one x y z a b = waits-equal (sym a.1 ∙ b.1)
 
   chase : (first : Key) (n : ℕ) (free : List Key) (x : Key) (cs : List Key) → HasAtMost n free → Wanted s x → IsAmong x (keys s) → Trail To x cs
@@ -238,7 +239,7 @@ module _ (s : State) (idle : s.flights ≡ []) (none : (t : Task) → ¬ IsOpen 
             let n : stage_of (effect (Cycled j) s) x ≡ Waits y = subst (λ o. OnWait y (stage_of (effect (Cycled j) s) x) o) (still_none y (undecided_next x y b) e) (marked_stage x y b) in
             f e (next_wanted (effect (Cycled j) s) x y w n)
 
-    root_after : (y : Key) → root_walk s ≡ Needs y → Way To y j
+    pub root_after : (y : Key) → root_walk s ≡ Needs y → Way To y j
         → (root_walk (effect (Cycled j) s) ≡ Turns j) ⊎ ((t : Task) × IsOpen (effect (Cycled j) s) t)
     root_after y h way = go (bool-case (key_eq j y))
       where

@@ -3,5 +3,13 @@ pub mod Histories
 pub mod Logs
 pub mod Stepping
 pub mod NewKeys
+pub mod Reading
+pub mod Claiming
+pub mod Deciding
+pub mod RootEnds
+pub mod Looping
+pub mod Seeing
+pub mod Tasks
+pub mod Reaching
 pub mod Beginnings
 pub mod Distinct

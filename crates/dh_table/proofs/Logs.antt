@@ -38,7 +38,7 @@ without-append n (f ∷ xs) ys = go (eq f.0 n) (without-append n xs ys)
     go true p = p
     go false p = ap (λ zs. f ∷ zs) p
 
-reverse-cons : {A B : Type 0} (f : A → B) (x : A) (xs : List A) → reverse (map f (x ∷ xs)) ≡ reverse (map f xs) ++ f x ∷ []
+pub reverse-cons : {A B : Type 0} (f : A → B) (x : A) (xs : List A) → reverse (map f (x ∷ xs)) ≡ reverse (map f xs) ++ f x ∷ []
 reverse-cons f x xs = reverse-append (f x ∷ []) (map f xs)
 
 -- the other serials
@@ -127,5 +127,6 @@ fewer_flights keys fs fs' n t p h =
     let d = length-reverse-map (flight_of keys) fs in
     omega arith
 
-pub room_lands : (a a' cf cf' d cd h h' ch ch' r cr : ℕ) → a' < a → a ≤ min (min (cf - a) (cd - d)) (min (ch - h) (cr - r)) → cf' ≡ cf → h' ≡ h + 1 → ch ≤ ch' → a' ≤ min (min (cf' - a') (cd - d)) (min (ch' - h') (cr - r))
-room_lands a a' cf cf' d cd h h' ch ch' r cr less room e p q = omega arith
+pub room_lands : (a a' cf cf' d cd h h' ch ch' r cr e : ℕ) → a' < a → a ≤ min (min (min (cf - a) (cd - d)) (min (ch - h) (cr - r))) e → cf' ≡ cf → h' ≡ h + 1 → ch ≤ ch'
+    → a' ≤ min (min (min (cf' - a') (cd - d)) (min (ch' - h') (cr - r))) e
+room_lands a a' cf cf' d cd h h' ch ch' r cr e less room p q l = omega arith

@@ -1,3 +1,4 @@
 -- Words of private clauses alone: what a reader must believe stands beside this folder.
 pub mod Entering
 pub mod Reading
+pub mod Searching

@@ -9,6 +9,7 @@ use Rattle.dh_syntax.specs.Imports.Walk.{keys_of}
 use Rattle.dh_demand.specs.declared.scans.Scan.{Scan}
 use Rattle.dh_demand.specs.Results.{ask_of}
 use Rattle.dh_demand.specs.Scans.{Fits}
+use Rattle.dh_table.specs.declared.scratch.Scratch.{Scratch}
 use Rattle.dh_table.specs.declared.steps.Flight.{Flight}
 use Rattle.dh_table.specs.declared.steps.Job.{Job}
 use Rattle.dh_table.specs.declared.tables.Table.TheInside.{Inside}
@@ -31,7 +32,10 @@ view_of t = record {
   drawn = t.drawn.items;
   history = t.history.items;
   refused = t.refused.items;
-  spare = min (min (vec_capacity t.flights - vec_len t.flights) (vec_capacity t.drawn - vec_len t.drawn)) (min (vec_capacity t.history - vec_len t.history) (vec_capacity t.refused - vec_len t.refused));
+  spare =
+      min
+      (min (min (vec_capacity t.flights - vec_len t.flights) (vec_capacity t.drawn - vec_len t.drawn)) (min (vec_capacity t.history - vec_len t.history) (vec_capacity t.refused - vec_len t.refused)))
+      (min (vec_capacity t.decided - vec_len t.decided) (vec_capacity t.limited - vec_len t.limited));
 }
 
 -- the keys that the root and the recorded texts name
@@ -51,6 +55,12 @@ pub record IsKnown (root : Scan) (keys : List Entrant) (texts : List Text) : Typ
   pub root_fits : Fits None (rows_of keys) (term root.expr) root.edges
   pub read : All (IsRead (rows_of keys)) texts
 
+-- a search of so many keys, and a loop of them, take no memory
+pub record IsRoomy (keys : ℕ) (s : Scratch) : Type 0 where
+  pub marks : keys ≤ length s.marks
+  pub seen : keys ≤ length s.seen
+  pub trail : length s.marks ≤ vec_capacity s.trail
+
 pub record IsGood {W : _} (t : Inside W) : Type 0 where
   pub replays : IsReplayed (view_of t)
   pub flights_named : All (λ (f : Flight). f.job.key < length t.keys) t.flights.items
@@ -61,4 +71,5 @@ pub record IsGood {W : _} (t : Inside W) : Type 0 where
   -- what is known of the keys is what was decided
   pub asks : outcome_of (state_of (view_of t)) ≡ ask_of (rows_of t.keys)
   pub known : IsKnown t.root t.keys t.texts.items
+  pub scratch : IsRoomy (length t.keys) t.scratch
   pub room : vec_len t.flights ≤ (view_of t).spare

@@ -1,10 +1,12 @@
 //! The keys of a table, by their numbers.
 
-ghost use Rattle.std.specs.Prelude.{◌≡◌, ◌<◌, ◌++◌, ◌∷◌, [], length, take, OnOk, OnErr};
+ghost use Rattle.std.specs.Prelude.{◌≡◌, ◌<◌, ◌++◌, ◌∷◌, [], length, take, slice_index_or, OnOk, OnErr};
+ghost use Rattle.dh_table.specs.Inside.Entering.{decided_at};
+ghost use Rattle.dh_table.specs.States.{nobody};
 
 use crate::texts::Entrant;
 use dh_demand::Results;
-use dh_syntax::{Key, Outcome};
+use dh_syntax::{Blame, Key, Outcome, Why};
 use std::alloc::{AllocError, Global};
 use std::marker::Model;
 
@@ -58,6 +60,29 @@ impl Entrants {
     {
         self.rows.push(entrant)?;
         Ok(())
+    }
+
+    /// Gives a key its outcome.
+    pub fn decide(&mut self, n: u32, outcome: Outcome)
+        requires { n < length self.old }
+        ensures { self.new ≡ decided_at self.old n outcome }
+    {
+        let entrant = &mut self.rows[n as usize];
+        entrant.outcome = Some(outcome);
+        entrant.own = None;
+    }
+
+    /// Gives a key the fault of a loop, of which it is the least key. It takes no memory.
+    pub fn mark(&mut self, n: u32)
+        requires { n < length self.old }
+        ensures { self.new ≡ decided_at self.old n (Outcome.Bad (record { at = (slice_index_or self.old n nobody).own; why = Why.Cycle })) }
+    {
+        let entrant = &mut self.rows[n as usize];
+        let at = entrant.own.take();
+        entrant.outcome = Some(Outcome::Bad(Blame {
+            at,
+            why: Why::Cycle,
+        }));
     }
 
     /// Keeps the first keys alone.

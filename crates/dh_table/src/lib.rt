@@ -5,17 +5,27 @@
 //! definitions, and the table's type keeps that its history leads to its state.
 #![tactic(auto)]
 
+mod claims;
 mod entering;
 mod entrants;
 mod entries;
 mod items;
+mod lookups;
+mod loops;
 mod news;
 mod numbers;
 mod opening;
+mod orders;
+mod plans;
+mod sameness;
+mod scratch;
+mod searches;
 mod steps;
 mod tables;
 mod texts;
+mod visits;
 
+pub use claims::Claimed;
 pub use entries::{Entry, Seen};
 pub use items::{Body, Done, Item};
 pub use news::{News, Noted, Parsed};

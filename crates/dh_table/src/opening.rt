@@ -8,6 +8,7 @@ ghost use Rattle.dh_table.specs.Calls.{IsOpened};
 
 use crate::entering::enter_all;
 use crate::entrants::Entrants;
+use crate::scratch::Scratch;
 use crate::tables::Table;
 use dh_demand::{Marks, Scan, import_keys};
 use dh_syntax::{Expr, MOST_KEYS};
@@ -42,9 +43,11 @@ impl<W> Table<W> {
         let imports = import_keys(alloc, &root, None)?;
         let mut keys = Entrants::new(alloc);
         let edges = enter_all(alloc, &mut keys, imports.as_slice(), None)?;
-        if keys.len() > MOST_KEYS {
+        let count = keys.len();
+        if count > MOST_KEYS {
             return Err(OpenFault::TooMany);
         }
+        let scratch = Scratch::for_keys(alloc, count)?;
         let root = Scan { expr: root, edges };
         Ok(Table {
             root,
@@ -57,6 +60,7 @@ impl<W> Table<W> {
             drawn: Vec::new(alloc),
             history: Vec::new(alloc),
             refused: Vec::new(alloc),
+            scratch,
             world: PhantomData,
         })
     }

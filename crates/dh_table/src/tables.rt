@@ -1,18 +1,16 @@
 //! The table.
 
-ghost use Rattle.std.specs.Prelude.{◌≡◌, ◌+◌, ◌≤◌, ◌<◌, ◌++◌, ◌∷◌, [], ℕ, suc, List, length, map, reverse, None, IsOk, OnOk, vec_len, vec_capacity};
-ghost use Rattle.std.specs.Option.{option_map};
-ghost use Rattle.dh_syntax.specs.Expressions.Numbers.{eq};
+ghost use Rattle.std.specs.Prelude.{◌≡◌, ◌+◌, ◌≤◌, ◌<◌, ◌++◌, ◌∷◌, [], suc, length, None, IsOk, OnOk, vec_len, vec_capacity};
 ghost use Rattle.dh_syntax.specs.Imports.Machine as machine;
-ghost use Rattle.dh_syntax.specs.Imports.Machine.{Task, IsOpen, root_walk, InFlight, IsInTime, effect};
-ghost use Rattle.dh_syntax.specs.Imports.Records.{lookup};
-ghost use Rattle.dh_table.specs.declared.texts.Entrant.{Entrant};
+ghost use Rattle.dh_syntax.specs.Imports.Machine.{Task, IsOpen, root_walk, InFlight, IsInTime, May, effect};
 ghost use Rattle.dh_table.specs.Calls.{Adds, IsSame, Releases};
 ghost use Rattle.dh_demand.specs.Nexts.{IsNext, IsInside};
-ghost use Rattle.dh_table.specs.States.{rows_of, state_of, task_of, flight_of, news_of};
+ghost use Rattle.dh_table.specs.States.{rows_of, key_named, state_of, task_of, news_of};
 
 use crate::entrants::Entrants;
 use crate::news::News;
+use crate::sameness::job_of;
+use crate::scratch::Scratch;
 use crate::steps::{Flight, Job, Kind, Step};
 use crate::texts::{Look, Text};
 use dh_demand::{Next, Results, Scan, next};
@@ -42,6 +40,8 @@ pub struct Table<W> {
     pub(crate) drawn: Vec<Job>,
     pub(crate) history: Vec<Step>,
     pub(crate) refused: Vec<News>,
+    // room for claims
+    pub(crate) scratch: Scratch,
     pub(crate) world: PhantomData<W>,
 }
 
@@ -62,7 +62,7 @@ impl<W> Model for Table<W> {
 }
 
 /// Adds an element where there is room.
-fn put<T: Drop>(v: &mut Vec<T>, x: T)
+pub(crate) fn put<T: Drop>(v: &mut Vec<T>, x: T)
     requires { vec_len v.old < vec_capacity v.old }
     ensures items { v.new.items ≡ v.old.items ++ x ∷ [] }
     ensures len { vec_len v.new ≡ vec_len v.old + 1 }
@@ -98,11 +98,13 @@ impl<W> Table<W> {
         self.drawn.reserve(n)?;
         self.history.reserve(n)?;
         self.refused.reserve(n)?;
+        self.decided.reserve(n)?;
+        self.limited.reserve(n)?;
         Ok(())
     }
 
     // What the walk of the root does next.
-    fn root_next(&self) -> Next
+    pub(crate) fn root_next(&self) -> Next
         ensures next { IsNext None (rows_of self.now.keys) (root_walk (state_of self.now)) result }
         ensures inside { IsInside (rows_of self.now.keys) result }
     {
@@ -110,7 +112,7 @@ impl<W> Table<W> {
     }
 
     // The step that hands out the task of a key.
-    fn draw(&mut self, worker: u32, job: Job) -> Ticket
+    pub(crate) fn draw(&mut self, worker: u32, job: Job) -> Ticket
         requires open { IsOpen (state_of self.old) (task_of self.old.keys job) }
         requires named { job.key < length self.old.keys }
         requires room { length self.old.flights + 2 ≤ self.old.spare }
@@ -133,6 +135,20 @@ impl<W> Table<W> {
             },
         );
         Ticket { serial, kind }
+    }
+
+    // The step that marks a loop at its least key.
+    pub(crate) fn mark(&mut self, n: u32)
+        requires may { May (machine.Cycled (key_named self.old.keys n)) (state_of self.old) }
+        requires inside { n < length self.old.keys }
+        requires room { length self.old.flights + 1 ≤ self.old.spare }
+        ensures state { state_of self.new ≡ effect (machine.Cycled (key_named self.old.keys n)) (state_of self.old) }
+        ensures flights { self.new.flights ≡ self.old.flights }
+        ensures adds { Adds self.old self.new (Step.Cycled n ∷ []) }
+    {
+        self.keys.mark(n);
+        put(&mut self.decided, n);
+        put(&mut self.history, Step::Cycled { key: n });
     }
 
     // The step that keeps news that came too late.
@@ -183,17 +199,4 @@ impl<W> Results for Table<W> {
     fn key(&self, key: u32) -> &Key {
         self.keys.key(key)
     }
-}
-
-// The task in flight under a serial: the last one.
-fn job_of(flights: &[Flight], serial: u64) -> Option<Job>
-    ensures { (keys : List Entrant) → option_map (task_of keys) result ≡ lookup eq (reverse (map (flight_of keys) flights.now)) serial }
-{
-    let mut found = None;
-    for flight in flights {
-        if flight.serial == serial {
-            found = Some(flight.job);
-        }
-    }
-    found
 }

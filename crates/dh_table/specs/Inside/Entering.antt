@@ -1,7 +1,8 @@
 -- How keys get their numbers.
-use Rattle.std.specs.Prelude.{◌≡◌, ℕ, ◌++◌, if◌then◌else◌, false, List, [], ◌∷◌, map, Option, Some, None, All}
+use Rattle.std.specs.Prelude.{◌≡◌, ℕ, ◌++◌, if◌then◌else◌, false, List, [], ◌∷◌, map, Option, Some, None, All, slice_index_or, slice_set}
 use Rattle.dh_syntax.specs.declared.locations.Key.{Key}
 use Rattle.dh_syntax.specs.declared.locations.Loc.{Loc}
+use Rattle.dh_syntax.specs.declared.outcomes.Outcome.{Outcome}
 use Rattle.dh_syntax.specs.Imports.Keys.{bare}
 use Rattle.dh_syntax.specs.Imports.Locations.{loc_text}
 use Rattle.dh_syntax.specs.Imports.Resolver.{is_in}
@@ -9,7 +10,7 @@ use Rattle.dh_demand.specs.declared.scans.Edge.{Edge}
 use Rattle.dh_demand.specs.Results.{Row, number_of}
 use Rattle.dh_demand.specs.Scans.{IsEdge}
 use Rattle.dh_table.specs.declared.texts.Entrant.{Entrant}
-use Rattle.dh_table.specs.States.{rows_of}
+use Rattle.dh_table.specs.States.{nobody, rows_of}
 
 abbrev pub key_of_entrant : Entrant → Key
 key_of_entrant e = e.key
@@ -65,3 +66,7 @@ AreEdges parent rows (k ∷ ks) (e ∷ es) = IsEdge parent rows k e × AreEdges 
 abbrev pub AreDistinct : List Key → Type 0
 AreDistinct [] = Unit {0}
 AreDistinct (k ∷ ks) = (is_in k ks ≡ false) × AreDistinct ks
+
+-- the keys with this outcome for the key of a number
+abbrev pub decided_at : List Entrant → ℕ → Outcome → List Entrant
+decided_at es n o = slice_set es n (record (slice_index_or es n nobody) { outcome = Some o; own = None })

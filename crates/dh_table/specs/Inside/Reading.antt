@@ -1,5 +1,5 @@
 -- What a table reads in its record.
-use Rattle.std.specs.Prelude.{◌≡◌, List, [], Option, Some, None, Result, Ok, Err, map, reverse}
+use Rattle.std.specs.Prelude.{◌≡◌, ℕ, List, [], Option, Some, None, Result, Ok, Err, map, reverse}
 use Rattle.dh_syntax.specs.declared.faults.ParseFault.{ParseFault}
 use Rattle.dh_syntax.specs.declared.locations.Key.{Key}
 use Rattle.dh_syntax.specs.declared.locations.Loc.{Loc}
@@ -13,8 +13,13 @@ use Rattle.dh_syntax.specs.Imports.Resolver as resolver
 use Rattle.dh_demand.specs.declared.scans.Scan.{Scan}
 use Rattle.dh_demand.specs.Results.{Row, number_of}
 use Rattle.dh_demand.specs.Scans.{Fits, text_key}
+use Rattle.dh_table.specs.declared.plans.Plan.{Plan}
+use Rattle.dh_table.specs.declared.plans.Plan.TheVariants as plans
+use Rattle.dh_table.specs.declared.steps.Kind.TheVariants as kinds
 use Rattle.dh_table.specs.declared.texts.Look.{Look}
 use Rattle.dh_table.specs.declared.texts.Text.{Text}
+use Rattle.dh_table.specs.declared.visits.Reach.{Reach}
+use Rattle.dh_table.specs.declared.visits.Reach.TheVariants as reaches
 use Rattle.dh_table.specs.States.{noted_by, scanned, seen_by, text_of, look_of}
 
 abbrev pub noted_of : Text → found.Noted
@@ -39,3 +44,32 @@ IsRead rows t = IsScan rows t.loc t.read
 pub record IsReadAt (rows : List Row) (l : Loc) (t : Text) : Type 0 where
   pub read : IsRead rows t
   pub loc_is : t.loc ≡ l
+
+-- ---- what is recorded for a key
+
+-- the text of a key is to be walked
+pub record IsWalk (rows : List Row) (k : Key) (e : Term) (s : Scan) : Type 0 where
+  pub expr_is : e ≡ term s.expr
+  pub fits : Fits (Some k.loc) rows e s.edges
+  pub text_is : text_key (Some k.loc) ≡ Some k
+
+abbrev pub IsPlan : List Row → Key → resolver.Plan → Plan → Type 0
+IsPlan rows k (Unknown (TextOf l)) plans.Fetch = l ≡ k.loc
+IsPlan rows k (Unknown (LookOf d)) plans.Look = k.digest ≡ Some d
+IsPlan rows k (Now i) plans.Now = Unit {0}
+IsPlan rows k (Walks e allow) (plans.Walk s) = IsWalk rows k e s.now
+IsPlan rows k (Asks j) (plans.Ask n) = number_of rows j ≡ Some n
+IsPlan rows k _ _ = ⊥
+
+-- the stage that a key has reached: its task is due, or it waits for the key of this number
+abbrev pub IsReach : List Row → Key → Stage → Reach → Type 0
+IsReach rows k (Lacks (TextOf l)) (reaches.Due kinds.Fetch) = l ≡ k.loc
+IsReach rows k (Lacks (LookOf d)) (reaches.Due kinds.Look) = k.digest ≡ Some d
+IsReach rows k (Has i) (reaches.Due kinds.Finish) = Unit {0}
+IsReach rows k (Meets j) (reaches.Due kinds.Finish) = Unit {0}
+IsReach rows k (Waits y) (reaches.Wait n) = number_of rows y ≡ Some n
+IsReach rows k _ _ = ⊥
+
+-- a key has a number
+abbrev pub IsNumbered : List Row → Key → Type 0
+IsNumbered rows k = (n : ℕ) × (number_of rows k ≡ Some n)

@@ -35,8 +35,9 @@ invariant_of-self g c =
       owned = c.self.invariant.owned;
       asks = c.self.invariant.asks;
       known = c.self.invariant.known;
+      scratch = c.self.invariant.scratch;
       room =
-          room_lands (vec_len t.flights) _ (vec_capacity t.flights) _ (vec_len t.drawn) _ (vec_len t.history) _ (vec_capacity t.history) _ (vec_len t.refused) _ fewer c.self.invariant.room c.retain.ensures.capacity c.put.ensures.len c.put.ensures.room;
+          room_lands (vec_len t.flights) _ (vec_capacity t.flights) _ (vec_len t.drawn) _ (vec_len t.history) _ (vec_capacity t.history) _ (vec_len t.refused) _ _ fewer c.self.invariant.room c.retain.ensures.capacity c.put.ensures.len c.put.ensures.room;
     }
 
 pub returns-clause-state : goal.returns-clause-state

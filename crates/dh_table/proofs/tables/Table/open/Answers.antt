@@ -15,11 +15,11 @@ use Rattle.dh_table.specs.Tables.{IsKnown, IsOwned, view_of}
 use Rattle.dh_table.proofs.Beginnings.{entered_as, all_owned, opened_known, opened_asks, opened_count, IsEmpty, empty_state, empty_replayed, above, not_above}
 use Rattle.dh_table.proofs.tables.Table.open.Goals as goal
 
-pub returns-then-len-gt-MOST_KEYS-clause-too_many : goal.returns-then-len-gt-MOST_KEYS-clause-too_many
-returns-then-len-gt-MOST_KEYS-clause-too_many g c e =
+pub returns-then-count-gt-MOST_KEYS-clause-too_many : goal.returns-then-count-gt-MOST_KEYS-clause-too_many
+returns-then-count-gt-MOST_KEYS-clause-too_many g c e =
     let root : Scan = record { expr = c.args.root; edges = c.in_ok-edges.edges } in
     let m = entered_as _ _ (keys_of None (term c.args.root)) c.enter_all.new.keys c.new-keys.ensures (c.as_slice.ensures ∙ c.in_ok-imports.ensures) c.in_ok-edges.ensures.entered in
-    above _ _ (opened_count root c.enter_all.new.keys m) (rw c.len.ensures at c.if-len-gt-MOST_KEYS.true)
+    above _ _ (opened_count root c.enter_all.new.keys m) (rw c.len-count.ensures at c.if-count-gt-MOST_KEYS.true)
 
 pub invariant_of-result : goal.invariant_of-result
 invariant_of-result g c =
@@ -29,7 +29,7 @@ invariant_of-result g c =
     let edges = along (λ ks. AreEdges None (rows_of keys) ks c.in_ok-edges.edges) (c.as_slice.ensures ∙ c.in_ok-imports.ensures) c.in_ok-edges.ensures.edges in
     let known : IsKnown root keys c.new.result.items = along (λ (ts : _). IsKnown root keys ts) (sym c.new.ensures.items) (opened_known root keys m c.in_ok-edges.ensures.few edges) in
     let t =
-    view_of {W = g.row.W.Denot} (record { root = root; keys = keys; texts = c.new.result; looks = c.new-2.result; decided = c.new-3.result; limited = c.new-4.result; flights = c.new-5.result; drawn = c.new-6.result; history = c.new-7.result; refused = c.new-8.result; world = record {} }) in
+    view_of {W = g.row.W.Denot} (record { root = root; keys = keys; texts = c.new.result; looks = c.new-2.result; decided = c.new-3.result; limited = c.new-4.result; flights = c.new-5.result; drawn = c.new-6.result; history = c.new-7.result; refused = c.new-8.result; scratch = c.in_ok-scratch.scratch; world = record {} }) in
     let empty : IsEmpty t = record {
       texts = c.new.ensures.items;
       looks = c.new-2.ensures.items;
@@ -49,6 +49,7 @@ invariant_of-result g c =
       owned = all_owned root keys m;
       asks = ap outcome_of (empty_state t empty) ∙ opened_asks root keys m;
       known = known;
+      scratch = (rw c.len-count.ensures at c.in_ok-scratch.ensures);
       room = grind (arith, common_steps);
     }
 
@@ -56,4 +57,4 @@ pub returns-clause-few : goal.returns-clause-few
 returns-clause-few g c =
     let root : Scan = record { expr = c.args.root; edges = c.in_ok-edges.edges } in
     let m = entered_as _ _ (keys_of None (term c.args.root)) c.enter_all.new.keys c.new-keys.ensures (c.as_slice.ensures ∙ c.in_ok-imports.ensures) c.in_ok-edges.ensures.entered in
-    not_above _ _ (opened_count root c.enter_all.new.keys m) (rw c.len.ensures at c.if-len-gt-MOST_KEYS.false)
+    not_above _ _ (opened_count root c.enter_all.new.keys m) (rw c.len-count.ensures at c.if-count-gt-MOST_KEYS.false)

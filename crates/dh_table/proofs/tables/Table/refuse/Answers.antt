@@ -28,5 +28,6 @@ invariant_of-self g c =
       owned = c.self.invariant.owned;
       asks = c.self.invariant.asks;
       known = c.self.invariant.known;
+      scratch = c.self.invariant.scratch;
       room = grind (arith, common_steps);
     }

@@ -8,12 +8,12 @@ pub land-requires : goal.land-requires
 land-requires g c =
     along (λ v. (x : Task) × InFlight (state_of v) c.args.ticket.serial x) c.self.view_is
     (some_flies c.self.inside.keys c.self.inside.flights.items c.args.ticket.serial c.job_of.result c.if-is_none.ensures
-    (rw c.as_slice.ensures.value at (c.job_of.ensures c.self.inside.keys)))
+    (rw c.as_slice.ensures.value at (c.job_of.ensures.task c.self.inside.keys)))
 
 pub returns : goal.returns
 returns g c =
     let f =
     along (λ v. (x : Task) × InFlight (state_of v) c.args.ticket.serial x) c.self.view_is
     (some_flies c.self.inside.keys c.self.inside.flights.items c.args.ticket.serial c.job_of.result c.if-is_none.ensures
-    (rw c.as_slice.ensures.value at (c.job_of.ensures c.self.inside.keys))) in
+    (rw c.as_slice.ensures.value at (c.job_of.ensures.task c.self.inside.keys))) in
     record { task = f.0; flies = f.1; state_is = c.land.ensures.state; adds = c.land.ensures.adds }

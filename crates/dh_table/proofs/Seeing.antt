@@ -1,0 +1,276 @@
+-- The search for an open task: what is known of marks, as keys are seen.
+use Rattle.std.specs.Prelude.{◌≡◌, ◌⊎◌, ◌<◌, ◌≤◌, ◌+◌, ℕ, zero, suc, Bool, true, false, if◌then◌else◌, List, [], ◌∷◌, ◌++◌, length, map, reverse, replicate, Option, Some, None, slice_index_or, slice_set, MatchOption, refl}
+use Rattle.std.proofs.Common.{ap, sym, ◌∙◌, subst, arith, inl, inr, eqb}
+use Rattle.std.proofs.lemmas.Bool.Decides.{eqb_tells}
+use Rattle.std.proofs.lemmas.List.{get_or-set_same, get_or-set_other, get_or-replicate, length-replicate}
+use Rattle.std.proofs.Math.ListN.{get_or-eq_default}
+use Rattle.std.proofs.lemmas.Bool.{cases_lt, false≢true}
+use Rattle.std.proofs.lemmas.List.Sums.{sum_by-set}
+use Rattle.dh_syntax.specs.declared.locations.Digest.{Digest}
+use Rattle.dh_syntax.specs.declared.locations.Key.{Key}
+use Rattle.dh_syntax.specs.Expressions.Numbers.{eq}
+use Rattle.dh_syntax.specs.Imports.Machine as machine
+use Rattle.dh_syntax.specs.Imports.Machine.{IsAmong, Task, State, InFlight, IsOpen, TaskOf, looks, fetches, finishes, IsDue, Wanted, by_root, by_key, leads_to, outcome_of, stage_of}
+use Rattle.dh_syntax.specs.Imports.Records.{Record, lookup}
+use Rattle.dh_syntax.specs.Imports.Resolver.{plan, plan_fetch, plan_mode, plan_digest, unfetched, of_plan, stage, Stage, TextOf, LookOf, Lacks, Has, Meets, Waits}
+use Rattle.dh_syntax.specs.Imports.Walk.{wants}
+use Rattle.dh_syntax.specs.Imports.Machine.{leads_by}
+use Rattle.dh_syntax.specs.Expressions.Tree.{Term}
+use Rattle.dh_demand.specs.declared.scans.Edge.{Edge}
+use Rattle.dh_demand.specs.Results.{Row, number_of, ask_of}
+use Rattle.dh_demand.specs.Scans.{Fits}
+use Rattle.dh_demand.specs.Wants.{AreMarked, HasNumber}
+use Rattle.dh_table.specs.declared.searches.Pass.TheVariants as passes
+use Rattle.dh_table.specs.declared.steps.Flight.{Flight}
+use Rattle.dh_table.specs.declared.steps.Job.{Job}
+use Rattle.dh_table.specs.declared.steps.Kind.{Kind}
+use Rattle.dh_table.specs.declared.steps.Kind.TheVariants as kinds
+use Rattle.dh_table.specs.declared.texts.Entrant.{Entrant}
+use Rattle.dh_table.specs.declared.texts.Look.{Look}
+use Rattle.dh_table.specs.declared.texts.Text.{Text}
+use Rattle.dh_table.specs.declared.visits.Reach.{Reach}
+use Rattle.dh_table.specs.declared.visits.Reach.TheVariants as reaches
+use Rattle.dh_table.specs.Inside.Reading.{record_by, IsReach, IsNumbered}
+use Rattle.dh_table.specs.Inside.Searching.{Stands, Flies, IsTaskAt, is_set, IsMarked, IsSeen, IsExplored, IsStill, IsJob, IsFound, one_unless, unseen}
+use Rattle.dh_table.specs.States.{rows_of, key_named, digest_or_none, task_by, task_of, flight_of}
+use Rattle.dh_table.proofs.Reading.{number_names, plan_limits, wants_numbered}
+
+-- ---- a state by the parts of a table
+
+module _ (keys : List Entrant) (texts : List Text) (looks' : List Look) (flights : List Flight) (s : State) (p : Stands keys texts looks' flights s) where
+  plan_stands : (k : Key) → plan s.recorded k ≡ plan (record_by texts looks') k
+  plan_stands k = plan_limits s.recorded k ∙ λ i. plan (record { texts = p.texts_are i; looks = p.looks_are i; limits = [] }) k
+
+  pub stage_stands : (k : Key) → stage_of s k ≡ stage (record_by texts looks') (ask_of (rows_of keys)) k
+  stage_stands k = λ i. of_plan (p.asks i) k (plan_stands k i)
+
+  pub leads_stand : (k : Key) → leads_to s k ≡ leads_by (ask_of (rows_of keys)) k (plan (record_by texts looks') k)
+  leads_stand k = λ i. leads_by (p.asks i) k (plan_stands k i)
+
+  pub flies_stands : (t : Task) → Flies keys flights t → (n : ℕ) × InFlight s n t
+  flies_stands t (n, f) = (n, ap (λ fs. lookup eq fs n) p.flights_are ∙ f)
+
+  pub flies_back : (n : ℕ) (t : Task) → InFlight s n t → Flies keys flights t
+  flies_back n t f = (n, ap (λ fs. lookup eq fs n) (sym p.flights_are) ∙ f)
+
+-- ---- the task of a key
+
+-- an open task has a wanted key at whose stage it is due
+pub record TaskAt (s : State) (t : Task) : Type 0 where
+  pub key : Key
+  pub wanted : Wanted s key
+  pub due : IsTaskAt key (stage_of s key) t
+
+due_at : (k : Key) (x : Stage) → IsDue x → IsTaskAt k x (machine.Finish k)
+due_at k (Lacks p) d = absurd d
+due_at k (Has i) d = refl
+due_at k (Meets j) d = refl
+due_at k (Waits y) d = absurd d
+
+pub task_at : (s : State) (t : Task) → TaskOf s t → TaskAt s t
+task_at s (machine.Look d) (looks {k = k} w e) = record { key = k; wanted = w; due = subst (λ x. IsTaskAt k x (machine.Look d)) (sym e) refl }
+task_at s (machine.Fetch l) (fetches {k = k} w e) = record { key = k; wanted = w; due = subst (λ x. IsTaskAt k x (machine.Fetch l)) (sym e) refl }
+task_at s (machine.Finish k) (finishes w d) = record { key = k; wanted = w; due = due_at k (stage_of s k) d }
+
+at_task : (s : State) (k : Key) (t : Task) (x : Stage) → Wanted s k → stage_of s k ≡ x → IsTaskAt k x t → TaskOf s t
+at_task s k t (Lacks (TextOf l)) w e d = subst (TaskOf s) (sym d) (fetches w e)
+at_task s k t (Lacks (LookOf h)) w e d = subst (TaskOf s) (sym d) (looks w e)
+at_task s k t (Has i) w e d = subst (TaskOf s) (sym d) (finishes w (subst IsDue (sym e) tt))
+at_task s k t (Meets j) w e d = subst (TaskOf s) (sym d) (finishes w (subst IsDue (sym e) tt))
+at_task s k t (Waits y) w e d = absurd d
+
+pub task_of_wanted : (s : State) (k : Key) (t : Task) → Wanted s k → IsTaskAt k (stage_of s k) t → TaskOf s t
+task_of_wanted s k t w d = at_task s k t (stage_of s k) w refl d
+
+-- a task of a key is due at its stage, and no other
+pub due_task : (rows : List Row) (k : Key) (x : Stage) (kind : Kind) → IsReach rows k x (reaches.Due kind) → IsTaskAt k x (task_by kind k)
+due_task rows k (Lacks (TextOf l)) kinds.Fetch r = ap (λ y. machine.Fetch y) (sym r)
+due_task rows k (Lacks (LookOf d)) kinds.Look r = ap (λ y. machine.Look (digest_or_none y)) r
+due_task rows k (Has i) kinds.Finish r = refl
+due_task rows k (Meets j) kinds.Finish r = refl
+due_task rows k (Lacks (TextOf l)) kinds.Look r = absurd r
+due_task rows k (Lacks (TextOf l)) kinds.Finish r = absurd r
+due_task rows k (Lacks (LookOf d)) kinds.Fetch r = absurd r
+due_task rows k (Lacks (LookOf d)) kinds.Finish r = absurd r
+due_task rows k (Has i) kinds.Fetch r = absurd r
+due_task rows k (Has i) kinds.Look r = absurd r
+due_task rows k (Meets j) kinds.Fetch r = absurd r
+due_task rows k (Meets j) kinds.Look r = absurd r
+due_task rows k (Waits y) kinds.Fetch r = absurd r
+due_task rows k (Waits y) kinds.Look r = absurd r
+due_task rows k (Waits y) kinds.Finish r = absurd r
+
+one_task : (k : Key) (x : Stage) (t u : Task) → IsTaskAt k x t → IsTaskAt k x u → t ≡ u
+one_task k (Lacks (TextOf l)) t u p q = p ∙ sym q
+one_task k (Lacks (LookOf d)) t u p q = p ∙ sym q
+one_task k (Has i) t u p q = p ∙ sym q
+one_task k (Meets j) t u p q = p ∙ sym q
+one_task k (Waits y) t u p q = absurd p
+
+no_task : (rows : List Row) (k : Key) (x : Stage) (n : ℕ) (t : Task) → IsReach rows k x (reaches.Wait n) → IsTaskAt k x t → ⊥
+no_task rows k (Lacks (TextOf l)) n t r d = r
+no_task rows k (Lacks (LookOf h)) n t r d = r
+no_task rows k (Has i) n t r d = r
+no_task rows k (Meets j) n t r d = r
+no_task rows k (Waits y) n t r d = d
+
+-- ---- marks
+
+pub set_cases : (bs : List Bool) (n x : ℕ) → is_set (slice_set bs n true) x ≡ true → (x ≡ n) ⊎ (is_set bs x ≡ true)
+set_cases bs n x h =
+    elim (eqb_tells x n) [
+      | inl p ↦ inl p.1
+      | inr p ↦ inr (sym (get_or-set_other bs n x true false p.1) ∙ h)
+    ]
+
+pub set_kept : (bs : List Bool) (n x : ℕ) → n < length bs → is_set bs x ≡ true → is_set (slice_set bs n true) x ≡ true
+set_kept bs n x l h =
+    elim (eqb_tells x n) [
+      | inl p ↦ subst (λ y. is_set (slice_set bs n true) y ≡ true) (sym p.1) (get_or-set_same bs n true false l)
+      | inr p ↦ get_or-set_other bs n x true false p.1 ∙ h
+    ]
+
+pub fewer_unseen : (bs : List Bool) (n : ℕ) → n < length bs → is_set bs n ≡ false → unseen (slice_set bs n true) < unseen bs
+fewer_unseen bs n l h =
+    let e = sum_by-set one_unless bs n true false l in
+    let f : one_unless (is_set bs n) ≡ 1 = ap one_unless h in
+    omega arith
+
+pub nothing_set : (n x : ℕ) → is_set (replicate n false) x ≡ true → ⊥
+nothing_set n x h =
+    elim (cases_lt x n) [
+      | inl l ↦ clash (sym (get_or-replicate n x false false l) ∙ h)
+      | inr g ↦ clash (sym (get_or-eq_default (replicate n false) false (subst (λ m. m ≤ x) (sym (length-replicate n false)) g)) ∙ h)
+    ]
+  where
+    clash : false ≡ true → ⊥
+    clash e = false≢true e
+
+module _ (keys : List Entrant) (marks marks' : List Bool) (rows-new : (n : ℕ) → is_set marks n ≡ true → is_set marks' n ≡ true) where
+  pub marked_kept : (j : Key) → IsMarked keys marks j → IsMarked keys marks' j
+  marked_kept j m = record { number = m.number; number_is = m.number_is; set = rows-new m.number m.set }
+
+-- ---- a key that is seen
+
+pub record See (s : State) (keys : List Entrant) (flights : List Flight) (n : ℕ) (marks marks' seen seen' : List Bool) : Type 0 where
+  pub inside : n < length keys
+  pub set : is_set marks n ≡ true
+  pub marks_fit : length keys ≤ length marks
+  pub marked : AreMarked (rows_of keys) (leads_to s (key_named keys n)) marks marks'
+  pub numbered : (j : Key) → IsAmong j (leads_to s (key_named keys n)) → IsNumbered (rows_of keys) j
+  pub seen_is : seen' ≡ slice_set seen n true
+  pub tasks : (t : Task) → IsTaskAt (key_named keys n) (stage_of s (key_named keys n)) t → Flies keys flights t
+
+module _ (s : State) (keys : List Entrant) (flights : List Flight) (n : ℕ) (marks marks' seen seen' : List Bool) (c : See s keys flights n marks marks' seen seen') (e : IsExplored s keys flights marks seen) where
+  see_leads : (j : Key) → IsAmong j (leads_to s (key_named keys n)) → IsMarked keys marks' j
+  see_leads j m =
+      let x = c.numbered j m in
+      let inside = number_names keys j x.0 x.1 in
+      let fit = c.marks_fit in
+      let l : x.0 < length marks = let a = inside.0 in omega arith in
+      record { number = x.0; number_is = x.1; set = c.marked.set x.0 l (j, m, x.1) }
+
+  see_sound : (x : ℕ) → is_set marks' x ≡ true → (x < length keys) × Wanted s (key_named keys x)
+  see_sound x h =
+      elim (c.marked.only x h) [
+        | inl old ↦ e.sound x old
+        | inr (j, m, q) ↦
+            let inside = number_names keys j x q in
+            (inside.0, subst (Wanted s) (sym inside.1) (by_key (e.sound n c.set).1 m))
+      ]
+
+  see_kept : (k : Key) → IsSeen s keys flights marks k → IsSeen s keys flights marks' k
+  see_kept k i = record { leads = λ j m. marked_kept keys marks marks' c.marked.kept j (i.leads j m); tasks = i.tasks }
+
+  see_closed : (x : ℕ) → is_set seen' x ≡ true → IsSeen s keys flights marks' (key_named keys x)
+  see_closed x h =
+      elim (set_cases seen n x (subst (λ bs. is_set bs x ≡ true) c.seen_is h)) [
+        | inl p ↦ subst (λ y. IsSeen s keys flights marks' (key_named keys y)) (sym p) (record { leads = see_leads; tasks = c.tasks })
+        | inr old ↦ see_kept (key_named keys x) (e.closed x old)
+      ]
+
+  pub see_explored : IsExplored s keys flights marks' seen'
+  see_explored = record { by_root = λ k m. marked_kept keys marks marks' c.marked.kept k (e.by_root k m); sound = see_sound; closed = see_closed }
+
+module _ (keys : List Entrant) (texts : List Text) (looks' : List Look) (flights : List Flight) (s : State) (p : Stands keys texts looks' flights s) (n : ℕ) (inside : n < length keys) where
+  abbrev the_stage : Stage
+  the_stage = stage (record_by texts looks') (ask_of (rows_of keys)) (key_named keys n)
+
+  pub waiting_tasks : (m : ℕ) → IsReach (rows_of keys) (key_named keys n) the_stage (reaches.Wait m) → (t : Task) → IsTaskAt (key_named keys n) (stage_of s (key_named keys n)) t → Flies keys flights t
+  waiting_tasks m r t d = absurd (no_task (rows_of keys) (key_named keys n) the_stage m t r (subst (λ x. IsTaskAt (key_named keys n) x t) (stage_stands keys texts looks' flights s p (key_named keys n)) d))
+
+  pub flying_tasks : (kind : Kind) → IsReach (rows_of keys) (key_named keys n) the_stage (reaches.Due kind) → Flies keys flights (task_by kind (key_named keys n))
+      → (t : Task) → IsTaskAt (key_named keys n) (stage_of s (key_named keys n)) t → Flies keys flights t
+  flying_tasks kind r f t d =
+      subst (Flies keys flights)
+      (one_task (key_named keys n) the_stage (task_by kind (key_named keys n)) t (due_task (rows_of keys) (key_named keys n) the_stage kind r)
+      (subst (λ x. IsTaskAt (key_named keys n) x t) (stage_stands keys texts looks' flights s p (key_named keys n)) d))
+      f
+
+  pub open_job : (kind : Kind) → Wanted s (key_named keys n) → IsReach (rows_of keys) (key_named keys n) the_stage (reaches.Due kind) → ¬ Flies keys flights (task_by kind (key_named keys n)) → IsJob s keys (record { kind = kind; key = n })
+  open_job kind w r f = record {
+    open_task = record {
+      due =
+          task_of_wanted s (key_named keys n) (task_by kind (key_named keys n)) w
+          (subst (λ x. IsTaskAt (key_named keys n) x (task_by kind (key_named keys n))) (sym (stage_stands keys texts looks' flights s p (key_named keys n))) (due_task (rows_of keys) (key_named keys n) the_stage kind r));
+      free = λ m h. f (flies_back keys texts looks' flights s p m (task_by kind (key_named keys n)) h);
+    };
+    inside = inside;
+  }
+
+  pub see_by : (marks marks' seen seen' : List Bool) → is_set marks n ≡ true → length keys ≤ length marks
+      → AreMarked (rows_of keys) (leads_by (ask_of (rows_of keys)) (key_named keys n) (plan (record_by texts looks') (key_named keys n))) marks marks'
+      → ((j : Key) → IsAmong j (leads_by (ask_of (rows_of keys)) (key_named keys n) (plan (record_by texts looks') (key_named keys n))) → IsNumbered (rows_of keys) j)
+      → seen' ≡ slice_set seen n true
+      → ((t : Task) → IsTaskAt (key_named keys n) (stage_of s (key_named keys n)) t → Flies keys flights t)
+      → See s keys flights n marks marks' seen seen'
+  see_by marks marks' seen seen' set fit marked numbered seen_is tasks =
+      let e = leads_stand keys texts looks' flights s p (key_named keys n) in
+      record {
+        inside = inside;
+        set = set;
+        marks_fit = fit;
+        marked = subst (λ ks. AreMarked (rows_of keys) ks marks marks') (sym e) marked;
+        numbered = λ j m. numbered j (subst (IsAmong j) e m);
+        seen_is = seen_is;
+        tasks = tasks;
+      }
+
+-- ---- the first keys, and the last
+
+module _ (keys : List Entrant) (texts : List Text) (looks' : List Look) (flights : List Flight) (s : State) (p : Stands keys texts looks' flights s) (root : Term) (edges : List Edge) (root_is : s.root ≡ root) (fits : Fits None (rows_of keys) root edges) where
+  root_wants : wants None (outcome_of s) s.root ≡ wants None (ask_of (rows_of keys)) root
+  root_wants = λ i. wants None (p.asks i) (root_is i)
+
+  pub first_explored : (size others : ℕ) (old marks seen : List Bool) → length keys ≤ size → old ≡ replicate size false → AreMarked (rows_of keys) (wants None (ask_of (rows_of keys)) root) old marks → seen ≡ replicate others false
+      → IsExplored s keys flights marks seen
+  first_explored size others old marks seen fit old_is m seen_is = record {
+    by_root =
+        λ k q.
+        let w = subst (IsAmong k) root_wants q in
+        let x = wants_numbered None (rows_of keys) (ask_of (rows_of keys)) root edges k fits w in
+        let inside = number_names keys k x.0 x.1 in
+        let l : x.0 < length old = let a = inside.0 in let b = ap length old_is ∙ length-replicate size false in omega arith in
+        record { number = x.0; number_is = x.1; set = m.set x.0 l (k, w, x.1) };
+    sound =
+        λ n h.
+        elim (m.only n h) [
+          | inl o ↦ absurd (nothing_set size n (subst (λ bs. is_set bs n ≡ true) old_is o))
+          | inr (j, w, q) ↦ (let inside = number_names keys j n q in (inside.0, subst (Wanted s) (sym inside.1) (by_root (subst (IsAmong j) (sym root_wants) w))))
+        ];
+    closed = λ n h. absurd (nothing_set others n (subst (λ bs. is_set bs n ≡ true) seen_is h));
+  }
+
+module _ (keys : List Entrant) (texts : List Text) (looks' : List Look) (flights : List Flight) (s : State) (p : Stands keys texts looks' flights s) (marks seen : List Bool) (e : IsExplored s keys flights marks seen) (still : IsStill marks seen) where
+  seen_key : (k : Key) → IsMarked keys marks k → IsSeen s keys flights marks k
+  seen_key k m = subst (IsSeen s keys flights marks) (number_names keys k m.number m.number_is).1 (e.closed m.number (still m.number m.set))
+
+  wanted_marked : {k : Key} → Wanted s k → IsMarked keys marks k
+  wanted_marked {k} (by_root m) = e.by_root k m
+  wanted_marked {k} (by_key {j = j} w m) = (seen_key j (wanted_marked w)).leads k m
+
+  pub none_open : (t : Task) → ¬ IsOpen s t
+  none_open t o =
+      let a = task_at s t o.due in
+      let f = flies_stands keys texts looks' flights s p t ((seen_key a.key (wanted_marked a.wanted)).tasks t a.due) in
+      o.free f.0 f.1

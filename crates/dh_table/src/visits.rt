@@ -1,0 +1,95 @@
+//! Which task of a key is due, and to which keys it leads.
+
+ghost use Rattle.std.specs.Prelude.{◌<◌, ◌≤◌, All, length};
+ghost use Rattle.dh_syntax.specs.declared.locations.Key.{Key};
+ghost use Rattle.dh_syntax.specs.Imports.Machine.{IsAmong, leads_by};
+ghost use Rattle.dh_syntax.specs.Imports.Resolver as resolver;
+ghost use Rattle.dh_syntax.specs.Imports.Resolver.{of_plan, stage};
+ghost use Rattle.dh_demand.specs.Results.{ask_of};
+ghost use Rattle.dh_demand.specs.Wants.{AreMarked};
+ghost use Rattle.dh_table.specs.Inside.Entering.{IsListed};
+ghost use Rattle.dh_table.specs.Inside.Reading.{record_by, IsRead, IsNumbered, IsPlan, IsReach};
+ghost use Rattle.dh_table.specs.States.{rows_of, key_named};
+
+use crate::entrants::Entrants;
+use crate::plans::{Plan, plan_of};
+use crate::steps::Kind;
+use crate::texts::{Look, Text};
+use dh_demand::{Marks, Next, Results, next, wanted};
+
+/// What is left to do for a key.
+#[derive(Clone, Copy, Debug)]
+pub(crate) enum Reach {
+    /// Its task, of this kind.
+    Due(Kind),
+    /// It waits for the key of this number.
+    Wait(u32),
+}
+
+/// What is left to do for the key of this number. Marks the keys to which it leads.
+pub(crate) fn visit(
+    keys: &Entrants,
+    texts: &[Text],
+    looks: &[Look],
+    n: u32,
+    marks: &mut Marks,
+) -> Reach
+    requires inside { n < length keys.now }
+    requires listed { All (IsListed (rows_of keys.now)) keys.now }
+    requires read { All (IsRead (rows_of keys.now)) texts.now }
+    requires marks { length keys.now ≤ length marks.old }
+    ensures reach { IsReach (rows_of keys.now) (key_named keys.now n) (stage (record_by texts.now looks.now) (ask_of (rows_of keys.now)) (key_named keys.now n)) result }
+    ensures marks { AreMarked (rows_of keys.now) (leads_by (ask_of (rows_of keys.now)) (key_named keys.now n) (resolver.plan (record_by texts.now looks.now) (key_named keys.now n))) marks.old marks.new }
+    ensures numbered { (j : Key) → IsAmong j (leads_by (ask_of (rows_of keys.now)) (key_named keys.now n) (resolver.plan (record_by texts.now looks.now) (key_named keys.now n))) → IsNumbered (rows_of keys.now) j }
+{
+    let plan = plan_of(keys, texts, looks, n);
+    mark_leads(keys, n, plan, marks);
+    reach_of(keys, n, plan)
+}
+
+/// What is left to do for the key of this number.
+pub(crate) fn look_ahead(keys: &Entrants, texts: &[Text], looks: &[Look], n: u32) -> Reach
+    requires inside { n < length keys.now }
+    requires listed { All (IsListed (rows_of keys.now)) keys.now }
+    requires read { All (IsRead (rows_of keys.now)) texts.now }
+    ensures { IsReach (rows_of keys.now) (key_named keys.now n) (stage (record_by texts.now looks.now) (ask_of (rows_of keys.now)) (key_named keys.now n)) result }
+{
+    let plan = plan_of(keys, texts, looks, n);
+    reach_of(keys, n, plan)
+}
+
+fn reach_of(keys: &Entrants, n: u32, plan: Plan<'_>) -> Reach
+    requires inside { n < length keys.now }
+    requires plan { (p : resolver.Plan) × IsPlan (rows_of keys.now) (key_named keys.now n) p plan }
+    ensures { (p : resolver.Plan) → IsPlan (rows_of keys.now) (key_named keys.now n) p plan.entry → IsReach (rows_of keys.now) (key_named keys.now n) (of_plan (ask_of (rows_of keys.now)) (key_named keys.now n) p) result }
+{
+    match plan {
+        Plan::Fetch => Reach::Due(Kind::Fetch),
+        Plan::Look => Reach::Due(Kind::Look),
+        Plan::Now => Reach::Due(Kind::Finish),
+        Plan::Walk(scan) => match next(scan, Some(&keys.key(n).loc), keys) {
+            Next::Need(key) => Reach::Wait(key),
+            Next::Ready | Next::Fault(_) => Reach::Due(Kind::Finish),
+        },
+        Plan::Ask(key) => match keys.outcome(key) {
+            None => Reach::Wait(key),
+            Some(_) => Reach::Due(Kind::Finish),
+        },
+    }
+}
+
+fn mark_leads(keys: &Entrants, n: u32, plan: Plan<'_>, marks: &mut Marks)
+    requires inside { n < length keys.now }
+    requires plan { (p : resolver.Plan) × IsPlan (rows_of keys.now) (key_named keys.now n) p plan }
+    requires marks { length keys.now ≤ length marks.old }
+    ensures { (p : resolver.Plan) → IsPlan (rows_of keys.now) (key_named keys.now n) p plan.entry → AreMarked (rows_of keys.now) (leads_by (ask_of (rows_of keys.now)) (key_named keys.now n) p) marks.old marks.new }
+{
+    match plan {
+        Plan::Fetch | Plan::Look | Plan::Now => {}
+        Plan::Walk(scan) => wanted(scan, Some(&keys.key(n).loc), keys, marks),
+        Plan::Ask(key) => match keys.outcome(key) {
+            None => marks.set(key, true),
+            Some(_) => {}
+        },
+    }
+}
