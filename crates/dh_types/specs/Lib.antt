@@ -1,4 +1,6 @@
+pub mod Closed
 pub mod Constants
+pub mod Growing
 pub mod Parts
 pub mod Plain
 pub mod SeenCodes
