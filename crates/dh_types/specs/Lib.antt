@@ -1,5 +1,6 @@
 pub mod Closed
 pub mod Constants
+pub mod Following
 pub mod Growing
 pub mod Parts
 pub mod Plain

@@ -11,7 +11,9 @@ mod kinds;
 mod labels;
 mod nodes;
 mod rows;
+pub mod rules;
 mod sameness;
+mod steps;
 
 pub use binders::seen_outside;
 pub use building::{applied, constant, function_type, node, plain_node, record_type_of};
@@ -20,3 +22,4 @@ pub use kinds::{application, argument_of, equivalence, forall, record_type, unio
 pub use labels::is_named;
 pub use nodes::shown;
 pub use sameness::same;
+pub use steps::{Found, Step, is_type};
