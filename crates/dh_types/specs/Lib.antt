@@ -6,3 +6,4 @@ pub mod Parts
 pub mod Plain
 pub mod SeenCodes
 pub mod Shown
+pub mod There
