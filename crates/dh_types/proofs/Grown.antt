@@ -3,7 +3,8 @@ use Rattle.std.specs.Prelude.{◌≡◌, ◌<◌, ◌≤◌, ◌+◌, ◌++◌, 
 use Rattle.std.proofs.Common.{ap, sym, ◌∙◌, arith, subst as along}
 use Rattle.dh_syntax.specs.declared.expressions.Op.{Op}
 use Rattle.dh_syntax.specs.Expressions.Forms.{plain_row}
-use Rattle.dh_syntax.specs.Expressions.Tree.{Node, kid, end}
+use Rattle.dh_syntax.specs.Expressions.Tree.{Leaf, Node, kid, end}
+use Rattle.dh_syntax.specs.Names.Nameless as ref
 use Rattle.dh_syntax.specs.Names.Nameless.{Core}
 use Rattle.dh_store.specs.declared.codes.Code.{Code}
 use Rattle.dh_store.specs.declared.codes.Code.TheVariants as codes
@@ -12,7 +13,7 @@ use Rattle.dh_store.specs.declared.codes.Codes.{Codes}
 use Rattle.dh_store.specs.Cells.{code_core, code_row, AreBelow, AreCoded, AreKidsBelow, IsCoded}
 use Rattle.dh_store.specs.Coding.{Coded}
 use Rattle.dh_store.specs.Growth.{count}
-use Rattle.dh_store.proofs.Coding.{code-Node, code_row-agree, pushed-coded, pushed-core, pushed-count, pushed-there}
+use Rattle.dh_store.proofs.Coding.{code-Bound, code-Node, code_row-agree, pushed-coded, pushed-core, pushed-count, pushed-there}
 use Rattle.dh_types.specs.Growing.{plain_kid, Grows, Stands}
 
 same-codes : (old new : Codes) → new.codes.items ≡ old.codes.items → (c : ℕ) → code_core new c ≡ code_core old c
@@ -92,3 +93,17 @@ plain-below n (i ∷ is) b = (b.0, plain-below n is b.1)
 pub stands-as : {E : Type 0} (cs : Codes) (r : Result ℕ E) (e f : Core) → e ≡ f → IfOk r (λ c. Stands cs c e) → IfOk r (λ c. Stands cs c f)
 stands-as cs (Ok c) e f p s = stands-with cs c e f p s
 stands-as cs (Err x) e f p s = tt
+
+-- ---- one more variable
+
+module _ (old new : Codes) (i : ℕ) (coded : AreCoded old) where
+  pub bound-grows : {E : Type 0} (r : Result ℕ E) → IfOk r (λ c. Coded old new (codes.Bound i) c) → OnErr r (new.codes.items ≡ old.codes.items) → Grows old new
+  bound-grows (Ok c) h e = grows-push old new _ c h coded tt
+  bound-grows (Err x) h e = grows-same old new coded e
+
+  pub bound-stands : {E : Type 0} (r : Result ℕ E) → IfOk r (λ c. Coded old new (codes.Bound i) c) → IfOk r (λ c. Stands new c (Leaf (ref.Bound i)))
+  bound-stands (Ok c) h = record {
+    there = pushed-there old new _ c h;
+    core = code-Bound new (pushed-coded old new _ c h coded tt) c i (ap (λ is. slice_get is c) h.codes ∙ got-last old.codes.items _ c h.number);
+  }
+  bound-stands (Err x) h = tt

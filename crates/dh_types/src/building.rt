@@ -3,7 +3,8 @@
 ghost use Rattle.std.specs.Prelude.{◌≡◌, ◌<◌, [], ◌∷◌, map, IfOk};
 ghost use Rattle.dh_syntax.specs.declared.expressions.Op.TheVariants.{RecordType};
 ghost use Rattle.dh_syntax.specs.Expressions.Forms as form;
-ghost use Rattle.dh_syntax.specs.Expressions.Tree.{Node as node_of};
+ghost use Rattle.dh_syntax.specs.Expressions.Tree.{Leaf, Node as node_of};
+ghost use Rattle.dh_syntax.specs.Names.Nameless as ref;
 ghost use Rattle.dh_store.specs.Cells.{code_core, code_row, AreBelow, AreCoded, AreKidsBelow};
 ghost use Rattle.dh_store.specs.Growth.{count};
 ghost use Rattle.dh_types.specs.Growing.{plain_kid, Grows, Stands};
@@ -20,6 +21,15 @@ pub fn node(codes: &mut Codes, op: Op, kids: Many<CodeKid>) -> Result<CodeId, Al
     ensures made { IfOk result (λ c. Stands codes.new c (node_of op (code_row (code_core codes.old) kids))) }
 {
     codes.push(Code::Node(op, kids))
+}
+
+/// Adds the variable of the binder so many above the nearest one.
+pub fn bound(codes: &mut Codes, index: u32) -> Result<CodeId, AllocError>
+    requires coded { AreCoded codes.old }
+    ensures grows { Grows codes.old codes.new }
+    ensures made { IfOk result (λ c. Stands codes.new c (Leaf (ref.Bound index))) }
+{
+    codes.push(Code::Bound(index))
 }
 
 /// A part under no binder.

@@ -16,7 +16,7 @@ mod sameness;
 mod steps;
 
 pub use binders::seen_outside;
-pub use building::{applied, constant, function_type, node, plain_node, record_type_of};
+pub use building::{applied, bound, constant, function_type, node, plain_node, record_type_of};
 pub use heads::{builtin_of, is_constant, universe_of};
 pub use kinds::{application, argument_of, equivalence, forall, record_type, union_type};
 pub use labels::is_named;
