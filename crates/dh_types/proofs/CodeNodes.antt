@@ -11,7 +11,7 @@ use Rattle.dh_store.specs.declared.codes.Code.TheVariants as codes
 use Rattle.dh_store.specs.declared.codes.CodeKid.{CodeKid}
 use Rattle.dh_store.specs.declared.codes.Codes.{Codes}
 use Rattle.dh_store.specs.Cells.{nothing, core_at, outside, code_value, code_cores, code_core, IsCoded, AreCoded}
-use Rattle.dh_store.proofs.Coding.{code-Bound, code-Free, code-Node, kids-there}
+use Rattle.dh_store.proofs.Coding.{code-Bound, code-Free, code-Node, kids-fit, kids-there}
 use Rattle.dh_store.proofs.Tables.{length-table}
 use Rattle.dh_types.specs.Shown.{IsLeaf, IsNode}
 
@@ -32,8 +32,9 @@ module _ (cs : Codes) (coded : AreCoded cs) (k : ℕ) where
   pub node-shown : (op : Op) (ks : List CodeKid) → slice_get cs.codes.items k ≡ Some (codes.Node op ks) → IsNode cs k op ks
   node-shown op ks h = record {
     core = code-Node cs coded k op ks h;
-    older = along (IsCoded k) (get_or_from_slice_get cs.codes.items k _ (codes.Bound 0) h) (coded k (slice_get_within cs.codes.items k _ h));
+    older = (along (IsCoded k) (get_or_from_slice_get cs.codes.items k _ (codes.Bound 0) h) (coded k (slice_get_within cs.codes.items k _ h))).0;
     there = kids-there cs coded k op ks h;
+    fits = λ f. kids-fit cs coded k op ks f h;
   }
 
   pub absent-nothing : slice_get cs.codes.items k ≡ None → code_core cs k ≡ nothing

@@ -1,11 +1,13 @@
 //! Making types over older codes.
 
-ghost use Rattle.std.specs.Prelude.{◌≡◌, ◌<◌, [], ◌∷◌, map, IfOk};
+ghost use Rattle.std.specs.Prelude.{◌≡◌, ◌<◌, [], ◌∷◌, length, map, IfOk, IsTrue};
 ghost use Rattle.dh_syntax.specs.declared.expressions.Op.TheVariants.{RecordType};
+ghost use Rattle.dh_syntax.specs.Expressions.Arity.{fits};
 ghost use Rattle.dh_syntax.specs.Expressions.Forms as form;
+ghost use Rattle.dh_syntax.specs.Expressions.Order.{ascending};
 ghost use Rattle.dh_syntax.specs.Expressions.Tree.{Leaf, Node as node_of};
 ghost use Rattle.dh_syntax.specs.Names.Nameless as ref;
-ghost use Rattle.dh_store.specs.Cells.{code_core, code_row, AreBelow, AreCoded, AreKidsBelow};
+ghost use Rattle.dh_store.specs.Cells.{code_core, code_row, nothing, takes, AreBelow, AreCoded, AreKidsBelow};
 ghost use Rattle.dh_store.specs.Growth.{count};
 ghost use Rattle.dh_types.specs.Growing.{plain_kid, Grows, Stands};
 
@@ -17,6 +19,7 @@ use std::alloc::{AllocError, Global};
 pub fn node(codes: &mut Codes, op: Op, kids: Many<CodeKid>) -> Result<CodeId, AllocError>
     requires coded { AreCoded codes.old }
     requires there { AreKidsBelow (count codes.old) kids }
+    requires fits { IsTrue (fits op (code_row (λ c. nothing) kids)) }
     ensures grows { Grows codes.old codes.new }
     ensures made { IfOk result (λ c. Stands codes.new c (node_of op (code_row (code_core codes.old) kids))) }
 {
@@ -59,6 +62,7 @@ pub fn plain_node(
 ) -> Result<CodeId, AllocError>
     requires coded { AreCoded codes.old }
     requires there { AreBelow (count codes.old) parts.now }
+    requires fits { IsTrue (takes op (length parts.now)) }
     ensures grows { Grows codes.old codes.new }
     ensures made { IfOk result (λ c. Stands codes.new c (node_of op (form.plain_row (map (code_core codes.old) parts.now)))) }
 {
@@ -100,6 +104,8 @@ pub fn record_type_of(
 ) -> Result<CodeId, AllocError>
     requires coded { AreCoded codes.old }
     requires there { AreBelow (count codes.old) types.now }
+    requires ascends { IsTrue (ascending labels) }
+    requires paired { length labels ≡ length types.now }
     ensures grows { Grows codes.old codes.new }
     ensures made { IfOk result (λ c. Stands codes.new c (node_of (RecordType labels) (form.plain_row (map (code_core codes.old) types.now)))) }
 {

@@ -1,8 +1,10 @@
 //! Types that are functions, applications, equivalences, record types or unions.
 
-ghost use Rattle.std.specs.Prelude.{◌≡◌, ◌<◌, ℕ, IfSome, length};
+ghost use Rattle.std.specs.Prelude.{◌≡◌, ◌<◌, ℕ, IfSome, IsTrue, length};
 ghost use Rattle.std.specs.Option.{option_map};
 ghost use Rattle.dh_syntax.specs.declared.expressions.Op.TheVariants.{Pi};
+ghost use Rattle.dh_syntax.specs.Expressions.Arity.{fits};
+ghost use Rattle.dh_syntax.specs.Expressions.Order.{ascending};
 ghost use Rattle.dh_syntax.specs.Expressions.Tree.{Node};
 ghost use Rattle.dh_syntax.specs.Expressions.Views.{as_app, as_record_type};
 ghost use Rattle.dh_syntax.specs.Names.Nameless.{Core};
@@ -11,7 +13,7 @@ ghost use Rattle.dh_store.specs.Cells.{code_core, code_row, AreCoded, AreKidsBel
 ghost use Rattle.dh_types.specs.Parts.{alternatives_of, fields_of};
 
 use crate::heads::is_constant;
-use crate::rows::{are_fields, are_plain, first_two};
+use crate::rows::first_two;
 use crate::nodes::shown;
 use dh_store::{CodeId, CodeKid, Codes};
 use dh_syntax::{Alt, BinOp, Builtin, Label, Op};
@@ -122,18 +124,14 @@ pub fn forall(codes: &Codes, id: CodeId) -> Option<(CodeId, &Label, CodeId)>
 }
 
 fn record_type_in<'a>(op: &'a Op, kids: &'a [CodeKid]) -> Option<(&'a [Label], &'a [CodeKid])>
+    requires fits { (f : ℕ → Core) → IsTrue (fits op.now (code_row f kids.now)) }
     ensures view { (f : ℕ → Core) → option_map (λ x. fields_of f x.0.now x.1.now) result ≡ as_record_type (Node op.now (code_row f kids.now)) }
     ensures there { (n : ℕ) → AreKidsBelow n kids.now → IfSome result (λ x. AreKidsBelow n x.1.now) }
     ensures lengths { IfSome result (λ x. length x.0.now ≡ length x.1.now) }
+    ensures ascends { IfSome result (λ x. IsTrue (ascending x.0.now)) }
 {
     match op {
-        Op::RecordType(labels) => {
-            if are_fields(labels.as_slice(), kids) {
-                Some((labels.as_slice(), kids))
-            } else {
-                None
-            }
-        }
+        Op::RecordType(labels) => Some((labels.as_slice(), kids)),
         _ => None,
     }
 }
@@ -144,6 +142,7 @@ pub fn record_type(codes: &Codes, id: CodeId) -> Option<(&[Label], &[CodeKid])>
     ensures view { option_map (λ x. fields_of (code_core codes.now) x.0.now x.1.now) result ≡ as_record_type (code_core codes.now id) }
     ensures older { IfSome result (λ x. AreKidsBelow id x.1.now) }
     ensures lengths { IfSome result (λ x. length x.0.now ≡ length x.1.now) }
+    ensures ascends { IfSome result (λ x. IsTrue (ascending x.0.now)) }
 {
     match shown(codes, id) {
         Some((op, kids)) => record_type_in(op, kids),
@@ -152,17 +151,12 @@ pub fn record_type(codes: &Codes, id: CodeId) -> Option<(&[Label], &[CodeKid])>
 }
 
 fn union_type_in<'a>(op: &'a Op, kids: &'a [CodeKid]) -> Option<(&'a [Alt], &'a [CodeKid])>
+    requires fits { (f : ℕ → Core) → IsTrue (fits op.now (code_row f kids.now)) }
     ensures view { (f : ℕ → Core) → option_map (λ x. alternatives_of f x.0.now x.1.now) result ≡ as_union_type (Node op.now (code_row f kids.now)) }
     ensures there { (n : ℕ) → AreKidsBelow n kids.now → IfSome result (λ x. AreKidsBelow n x.1.now) }
 {
     match op {
-        Op::Union(alts) => {
-            if are_plain(kids) {
-                Some((alts.as_slice(), kids))
-            } else {
-                None
-            }
-        }
+        Op::Union(alts) => Some((alts.as_slice(), kids)),
         _ => None,
     }
 }
