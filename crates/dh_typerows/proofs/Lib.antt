@@ -1,0 +1,2 @@
+pub mod FoundFields
+pub mod Universes

@@ -1,0 +1,5 @@
+pub mod Drafts
+pub mod Entries
+pub mod Fields
+pub mod Greatest
+pub mod Selections
