@@ -42,7 +42,7 @@ abbrev row_of : Core → Row Ref Name
 row_of (Node op r) = r
 row_of e = end
 
-node-once : (op : Op) (r s : Row Ref Name) → node op r ≡ node op s → r ≡ s
+pub node-once : (op : Op) (r s : Row Ref Name) → node op r ≡ node op s → r ≡ s
 node-once op r s e = ap row_of e
 
 abbrev first_of : Core → Row Ref Name → Core
@@ -53,10 +53,10 @@ abbrev rest_of : Row Ref Name → Row Ref Name
 rest_of (kid b e r) = r
 rest_of end = end
 
-part-once : (b : Option Name) (e f : Core) (r s : Row Ref Name) → kid b e r ≡ kid b f s → e ≡ f
+pub part-once : (b : Option Name) (e f : Core) (r s : Row Ref Name) → kid b e r ≡ kid b f s → e ≡ f
 part-once b e f r s p = ap (first_of e) p
 
-rest-once : (b : Option Name) (e f : Core) (r s : Row Ref Name) → kid b e r ≡ kid b f s → r ≡ s
+pub rest-once : (b : Option Name) (e f : Core) (r s : Row Ref Name) → kid b e r ≡ kid b f s → r ≡ s
 rest-once b e f r s p = ap rest_of p
 
 both : (b : Option Name) (e f : Core) (r s : Row Ref Name) → e ≡ f → r ≡ s → kid b e r ≡ kid b f s

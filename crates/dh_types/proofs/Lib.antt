@@ -1,5 +1,6 @@
 pub mod BoundVariables
 pub mod ClosedCores
+pub mod ClosedParts
 pub mod CodeNodes
 pub mod FreeVariables
 pub mod Grown

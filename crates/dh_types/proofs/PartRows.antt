@@ -13,6 +13,7 @@ use Rattle.dh_syntax.specs.Names.Nameless.{Core}
 use Rattle.dh_syntax.specs.Typing.TypeViews.{alternatives, as_union_type}
 use Rattle.dh_store.specs.declared.codes.CodeKid.{CodeKid}
 use Rattle.dh_store.specs.Cells.{code_row, nothing}
+use Rattle.dh_types.specs.Closed.{AreClosed, AreClosedTypes, IsClosed, IsClosedIn}
 use Rattle.dh_types.specs.Parts.{alternatives_of, cores_of, fields_of}
 
 module _ (f : ℕ → Core) (n c : ℕ) (ks : List CodeKid) where
@@ -55,6 +56,15 @@ and-second : (a b : Bool) → (a && b) ≡ true → b ≡ true
 and-second true b h = h
 and-second false b h = absurd (false≢true h)
 
+closed-first : (f : ℕ → Core) (n : ℕ) (e : Core) (ks : List CodeKid) (b : Option Name) → (plain n (code_row f ks) ≡ true → AreClosedTypes f ks) → plain (suc n) (kid b e (code_row f ks)) ≡ true → IsClosedIn b e → IsClosed e × AreClosedTypes f ks
+closed-first f n e ks None rest h c = (c, rest h)
+closed-first f n e ks (Some x) rest h c = absurd (false≢true h)
+
+plain-closed : (f : ℕ → Core) (n : ℕ) (ks : List CodeKid) → plain n (code_row f ks) ≡ true → AreClosed f ks → AreClosedTypes f ks
+plain-closed f n [] h c = tt
+plain-closed f zero (k ∷ ks) h c = absurd (false≢true h)
+plain-closed f (suc n) (k ∷ ks) h c = closed-first f n (f k.code) ks k.binder (λ p. plain-closed f n ks p c.1) h c.0
+
 -- the parts that a record type or a union has
 abbrev Fits : Op → List CodeKid → Type 0
 Fits op ks = (f : ℕ → Core) → IsTrue (fits op (code_row f ks))
@@ -73,6 +83,9 @@ module _ (op : Op) (xs ys : List Name) (ks : List CodeKid) (is : op ≡ ops.Reco
 
   pub record-ascends : IsTrue (ascending ys)
   record-ascends = ap ascending same ∙ and-first (ascending xs) _ (along-op op _ ks is h (λ c. nothing))
+
+  pub record-closed : (f : ℕ → Core) → AreClosed f ks → AreClosedTypes f ks
+  record-closed f c = plain-closed f (length xs) ks (and-second (ascending xs) _ (along-op op _ ks is h f)) c
 
 pub union-row : (op : Op) (alts as' : List Alt) (ks : List CodeKid) → op ≡ ops.Union alts → as' ≡ alts → Fits op ks → (f : ℕ → Core) → Some (alternatives_of f as' ks) ≡ as_union_type (Node op (code_row f ks))
 union-row op alts as' ks is same h f =

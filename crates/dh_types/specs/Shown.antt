@@ -8,6 +8,7 @@ use Rattle.dh_store.specs.declared.codes.CodeKid.{CodeKid}
 use Rattle.dh_store.specs.declared.codes.Codes.{Codes}
 use Rattle.dh_store.specs.Cells.{code_core, code_row, AreKidsBelow}
 use Rattle.dh_store.specs.Growth.{count}
+use Rattle.dh_types.specs.Closed.{AreClosed, IsClosed}
 
 -- an expression that is a variable
 abbrev pub IsLeaf : Core → Type 0
@@ -19,3 +20,4 @@ pub record IsNode (cs : Codes) (c : ℕ) (op : Op) (ks : List CodeKid) : Type 0 
   pub older : AreKidsBelow c ks
   pub there : AreKidsBelow (count cs) ks
   pub fits : (f : ℕ → Core) → IsTrue (fits op (code_row f ks))
+  pub closed : IsClosed (code_core cs c) → AreClosed (code_core cs) ks
