@@ -8,9 +8,8 @@ ghost use Rattle.dh_store.specs.Cells.{code_core, AreCoded};
 ghost use Rattle.dh_store.specs.Growth.{count};
 ghost use Rattle.dh_types.specs.Growing.{Grows};
 
-use crate::functions;
-use crate::lists;
 use crate::pieces::between;
+use crate::{functions, lists};
 use dh_store::{CodeId, Codes};
 use dh_syntax::Builtin;
 use dh_types::constant;

@@ -14,8 +14,7 @@ ghost use Rattle.dh_infer_ops.specs.Operators as parts_of;
 use crate::drafts::Draft;
 use dh_store::{CodeId, Codes};
 use dh_syntax::Builtin;
-use dh_types::rules;
-use dh_types::{Found, equivalence as sides_of, is_constant, is_type, same};
+use dh_types::{Found, equivalence as sides_of, is_constant, is_type, rules, same};
 
 /// `assert : t`, where t has this type.
 pub(crate) fn assertion(codes: &Codes, found: &Found, t: CodeId) -> Draft

@@ -17,8 +17,7 @@ ghost use Rattle.dh_infer_ops.specs.Operators as parts_of;
 use crate::drafts::Draft;
 use dh_store::{CodeId, Codes};
 use dh_syntax::Builtin;
-use dh_types::rules;
-use dh_types::{Found, argument_of, is_constant, is_type, same};
+use dh_types::{Found, argument_of, is_constant, is_type, rules, same};
 
 /// Whether each of these types is the type t.
 fn are_same(codes: &Codes, t: CodeId, types: &[CodeId]) -> bool

@@ -13,8 +13,7 @@ ghost use Rattle.dh_infer_ops.specs.Operators.{branches};
 use crate::drafts::Draft;
 use dh_store::{CodeId, Codes};
 use dh_syntax::Builtin;
-use dh_types::rules;
-use dh_types::{Found, argument_of, is_constant, is_type, same};
+use dh_types::{Found, argument_of, is_constant, is_type, rules, same};
 
 /// `if p then l else r`
 pub(crate) fn if_then_else(codes: &Codes, found: &Found, p: CodeId, l: CodeId, r: CodeId) -> Draft

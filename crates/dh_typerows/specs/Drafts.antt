@@ -5,6 +5,7 @@ use Rattle.dh_syntax.specs.Expressions.Forms as form
 use Rattle.dh_syntax.specs.Expressions.Order.{ascending}
 use Rattle.dh_syntax.specs.Expressions.Tree.{Node}
 use Rattle.dh_syntax.specs.Names.Nameless.{Core}
+use Rattle.dh_syntax.specs.Typing.NamelessTyping.{core_scopes}
 use Rattle.dh_syntax.specs.Typing.TypeRulesUnions.{map_type}
 use Rattle.dh_store.specs.Cells.{AreBelow}
 use Rattle.dh_types.specs.Following.{Course, Takes, Forms, Refuses, WantsNormal, WantsUniverse}
@@ -17,7 +18,7 @@ draft_of f (drafts.Takes c) = Takes (f c)
 draft_of f (drafts.TakesConstant b) = Takes (form.builtin b)
 draft_of f (drafts.FormsRecord xs cs) = Forms (Node (ops.RecordType xs) (form.plain_row (map f cs)))
 draft_of f (drafts.FormsFunction x t u) = Forms (form.forall x (f t) (f u))
-draft_of f (drafts.FormsMap c) = Forms (map_type (f c))
+draft_of f (drafts.FormsMap c) = Forms (map_type core_scopes (f c))
 draft_of f (drafts.Refuses rule) = Refuses rule
 draft_of f (drafts.WantsNormal k) = WantsNormal k
 draft_of f (drafts.WantsUniverse k) = WantsUniverse k

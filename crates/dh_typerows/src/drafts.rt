@@ -1,6 +1,7 @@
 //! What a rule of this group answers, before the type that it makes is made.
 
 ghost use Rattle.std.specs.Prelude.{◌≡◌, ◌<◌, IfOk};
+ghost use Rattle.dh_syntax.specs.Typing.NamelessTyping.{core_scopes};
 ghost use Rattle.dh_syntax.specs.Typing.TypeRulesUnions.{map_type};
 ghost use Rattle.dh_store.specs.Cells.{code_core, AreCoded};
 ghost use Rattle.dh_store.specs.Growth.{count};
@@ -59,7 +60,7 @@ fn map_type(alloc: Global, codes: &mut Codes, value: CodeId) -> Result<CodeId, A
     requires coded { AreCoded codes.old }
     requires there { value < count codes.old }
     ensures grows { Grows codes.old codes.new }
-    ensures made { IfOk result (λ c. Stands codes.new c (map_type (code_core codes.old value))) }
+    ensures made { IfOk result (λ c. Stands codes.new c (map_type core_scopes (code_core codes.old value))) }
 {
     let entry = entry_type(alloc, codes, value)?;
     applied(alloc, codes, Builtin::List, entry)

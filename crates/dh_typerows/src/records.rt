@@ -20,8 +20,7 @@ use crate::drafts::Draft;
 use crate::fields::{field_at, fields_at};
 use dh_store::{CodeId, CodeKid, Codes};
 use dh_syntax::{Builtin, Label, Labels, Many, copy_labels};
-use dh_types::rules;
-use dh_types::{Found, is_constant, record_type, same};
+use dh_types::{Found, is_constant, record_type, rules, same};
 use std::alloc::{AllocError, Global};
 
 /// Whether one of these types is Sort.

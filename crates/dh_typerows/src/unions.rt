@@ -20,8 +20,7 @@ use crate::drafts::Draft;
 use crate::fields::field_type;
 use dh_store::{CodeId, CodeKid, Codes};
 use dh_syntax::{Alt, Label};
-use dh_types::rules;
-use dh_types::{Found, is_named, union_type};
+use dh_types::{Found, is_named, rules, union_type};
 use std::alloc::{AllocError, Global};
 
 /// The type of an alternative, if it has one, and the types that are left for those after it.

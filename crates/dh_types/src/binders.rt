@@ -1,6 +1,6 @@
 //! Whether a type mentions the variable of a binder above it.
 
-ghost use Rattle.std.specs.Prelude.{◌≡◌, ◌<◌, ◌≤◌, ◌+◌, ◌^◌};
+ghost use Rattle.std.specs.Prelude.{◌≡◌, ◌<◌, ◌≤◌, ◌+◌, ◌^◌, IfSome};
 ghost use Rattle.std.specs.Option.{option_map};
 ghost use Rattle.dh_syntax.specs.Typing.NamelessTyping.{above, down, mentions};
 ghost use Rattle.dh_store.specs.Cells.{code_core, AreCoded};
@@ -46,7 +46,8 @@ fn mentions_at(codes: &Codes, level: u64, id: CodeId) -> bool
 pub fn seen_outside(codes: &Codes, id: CodeId) -> Option<CodeId>
     requires coded { AreCoded codes.now }
     requires closed { IsClosedBelow (code_core codes.now id) }
-    ensures { option_map (code_core codes.now) result ≡ down (code_core codes.now id) }
+    ensures view { option_map (code_core codes.now) result ≡ down (code_core codes.now id) }
+    ensures same { IfSome result (λ c. c ≡ id) }
 {
     if mentions_at(codes, 0, id) {
         None

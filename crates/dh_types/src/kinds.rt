@@ -14,8 +14,8 @@ ghost use Rattle.dh_types.specs.Closed.{AreClosed, AreClosedTypes, IsClosed, IsC
 ghost use Rattle.dh_types.specs.Parts.{alternatives_of, fields_of};
 
 use crate::heads::is_constant;
-use crate::rows::first_two;
 use crate::nodes::shown;
+use crate::rows::first_two;
 use dh_store::{CodeId, CodeKid, Codes};
 use dh_syntax::{Alt, BinOp, Builtin, Label, Op};
 
