@@ -11,9 +11,10 @@ use Rattle.dh_store.specs.declared.codes.Code.TheVariants as codes
 use Rattle.dh_store.specs.declared.codes.CodeKid.{CodeKid}
 use Rattle.dh_store.specs.declared.codes.Codes.{Codes}
 use Rattle.dh_store.specs.Cells.{nothing, core_at, outside, code_value, code_cores, code_core, IsCoded, AreCoded}
-use Rattle.dh_store.proofs.Coding.{code-Bound, code-Free, code-Node, kids-there}
+use Rattle.dh_store.proofs.Coding.{code-Bound, code-Free, code-Node, kids-fit, kids-there}
 use Rattle.dh_store.proofs.Tables.{length-table}
 use Rattle.dh_types.specs.Shown.{IsLeaf, IsNode}
+use Rattle.dh_types.proofs.ClosedParts.{closed-node}
 
 pub leaf-is : (e f : Core) → e ≡ f → IsLeaf f → IsLeaf e
 leaf-is e f p l = (l.0, p ∙ l.1)
@@ -34,6 +35,8 @@ module _ (cs : Codes) (coded : AreCoded cs) (k : ℕ) where
     core = code-Node cs coded k op ks h;
     older = (along (IsCoded k) (get_or_from_slice_get cs.codes.items k _ (codes.Bound 0) h) (coded k (slice_get_within cs.codes.items k _ h))).0;
     there = kids-there cs coded k op ks h;
+    fits = λ f. kids-fit cs coded k op ks f h;
+    closed = closed-node (code_core cs k) op (code_core cs) ks (code-Node cs coded k op ks h);
   }
 
   pub absent-nothing : slice_get cs.codes.items k ≡ None → code_core cs k ≡ nothing

@@ -1,6 +1,6 @@
 -- Comparing the parts of two nodes, one by one.
 use Rattle.std.specs.Prelude.{◌≡◌, ◌<◌, ℕ, zero, suc, true, false, ◌&&◌, nat_eq, List, [], ◌∷◌, length, refl}
-use Rattle.std.proofs.Common.{sym, ◌∙◌, ap, arith, get_or}
+use Rattle.std.proofs.Common.{sym, ◌∙◌, ap, arith, get_or, subst as along}
 use Rattle.std.proofs.Math.Bool.{and-false}
 use Rattle.dh_syntax.specs.declared.expressions.Op.{Op}
 use Rattle.dh_syntax.specs.Expressions.SameTree.{op_eq, option_eq}
@@ -42,3 +42,6 @@ kid-below n (k ∷ ks) (suc i) d b h = kid-below n ks i d b.1 (omega arith)
 
 pub kid-older : (n t : ℕ) (ks : List CodeKid) (i : ℕ) (d : CodeKid) → AreKidsBelow n ks → i < length ks → n ≡ t → (get_or ks i d).code < t
 kid-older n t ks i d b h e = let p = kid-below n ks i d b h in omega arith
+
+pub kid-at : (n : ℕ) (ks : List CodeKid) (i : ℕ) (d : CodeKid) → AreKidsBelow n ks → i < length ks → d ≡ get_or ks i d → d.code < n
+kid-at n ks i d b h e = along (λ (k : CodeKid). k.code < n) (sym e) (kid-below n ks i d b h)

@@ -1,5 +1,8 @@
+pub mod Closed
 pub mod Constants
+pub mod Following
+pub mod Growing
 pub mod Parts
-pub mod Plain
 pub mod SeenCodes
 pub mod Shown
+pub mod There

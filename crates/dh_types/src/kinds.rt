@@ -1,18 +1,21 @@
 //! Types that are functions, applications, equivalences, record types or unions.
 
-ghost use Rattle.std.specs.Prelude.{◌≡◌, ◌<◌, ℕ, IfSome, length};
+ghost use Rattle.std.specs.Prelude.{◌≡◌, ◌<◌, ℕ, IfSome, IsTrue, length};
 ghost use Rattle.std.specs.Option.{option_map};
 ghost use Rattle.dh_syntax.specs.declared.expressions.Op.TheVariants.{Pi};
+ghost use Rattle.dh_syntax.specs.Expressions.Arity.{fits};
+ghost use Rattle.dh_syntax.specs.Expressions.Order.{ascending};
 ghost use Rattle.dh_syntax.specs.Expressions.Tree.{Node};
 ghost use Rattle.dh_syntax.specs.Expressions.Views.{as_app, as_record_type};
 ghost use Rattle.dh_syntax.specs.Names.Nameless.{Core};
 ghost use Rattle.dh_syntax.specs.Typing.TypeViews.{as_applied, as_equivalence, as_forall, as_union_type};
 ghost use Rattle.dh_store.specs.Cells.{code_core, code_row, AreCoded, AreKidsBelow};
+ghost use Rattle.dh_types.specs.Closed.{AreClosed, AreClosedTypes, IsClosed, IsClosedBelow};
 ghost use Rattle.dh_types.specs.Parts.{alternatives_of, fields_of};
 
 use crate::heads::is_constant;
 use crate::nodes::shown;
-use crate::rows::{are_fields, are_plain, first_two};
+use crate::rows::first_two;
 use dh_store::{CodeId, CodeKid, Codes};
 use dh_syntax::{Alt, BinOp, Builtin, Label, Op};
 
@@ -82,6 +85,7 @@ pub fn equivalence(codes: &Codes, id: CodeId) -> Option<(CodeId, CodeId)>
 fn binding(kids: &[CodeKid]) -> Option<(CodeId, &Label, CodeId)>
     ensures view { (f : ℕ → Core) → option_map (λ x. (f x.0, x.1.now, f x.2)) result ≡ as_forall (Node Pi (code_row f kids.now)) }
     ensures there { (n : ℕ) → AreKidsBelow n kids.now → IfSome result (λ x. (x.0 < n) × (x.2 < n)) }
+    ensures closed { (f : ℕ → Core) → AreClosed f kids.now → IfSome result (λ x. IsClosed (f x.0) × IsClosedBelow (f x.2)) }
 {
     match kids {
         [domain, range, ..] => match &range.binder {
@@ -102,6 +106,7 @@ fn binding(kids: &[CodeKid]) -> Option<(CodeId, &Label, CodeId)>
 fn forall_in<'a>(op: &'a Op, kids: &'a [CodeKid]) -> Option<(CodeId, &'a Label, CodeId)>
     ensures view { (f : ℕ → Core) → option_map (λ x. (f x.0, x.1.now, f x.2)) result ≡ as_forall (Node op.now (code_row f kids.now)) }
     ensures there { (n : ℕ) → AreKidsBelow n kids.now → IfSome result (λ x. (x.0 < n) × (x.2 < n)) }
+    ensures closed { (f : ℕ → Core) → AreClosed f kids.now → IfSome result (λ x. IsClosed (f x.0) × IsClosedBelow (f x.2)) }
 {
     match op {
         Op::Pi => binding(kids),
@@ -114,6 +119,7 @@ pub fn forall(codes: &Codes, id: CodeId) -> Option<(CodeId, &Label, CodeId)>
     requires coded { AreCoded codes.now }
     ensures view { option_map (λ x. (code_core codes.now x.0, x.1.now, code_core codes.now x.2)) result ≡ as_forall (code_core codes.now id) }
     ensures older { IfSome result (λ x. (x.0 < id) × (x.2 < id)) }
+    ensures closed { IsClosed (code_core codes.now id) → IfSome result (λ x. IsClosed (code_core codes.now x.0) × IsClosedBelow (code_core codes.now x.2)) }
 {
     match shown(codes, id) {
         Some((op, kids)) => forall_in(op, kids),
@@ -122,18 +128,15 @@ pub fn forall(codes: &Codes, id: CodeId) -> Option<(CodeId, &Label, CodeId)>
 }
 
 fn record_type_in<'a>(op: &'a Op, kids: &'a [CodeKid]) -> Option<(&'a [Label], &'a [CodeKid])>
+    requires fits { (f : ℕ → Core) → IsTrue (fits op.now (code_row f kids.now)) }
     ensures view { (f : ℕ → Core) → option_map (λ x. fields_of f x.0.now x.1.now) result ≡ as_record_type (Node op.now (code_row f kids.now)) }
     ensures there { (n : ℕ) → AreKidsBelow n kids.now → IfSome result (λ x. AreKidsBelow n x.1.now) }
     ensures lengths { IfSome result (λ x. length x.0.now ≡ length x.1.now) }
+    ensures ascends { IfSome result (λ x. IsTrue (ascending x.0.now)) }
+    ensures closed { (f : ℕ → Core) → AreClosed f kids.now → IfSome result (λ x. AreClosedTypes f x.1.now) }
 {
     match op {
-        Op::RecordType(labels) => {
-            if are_fields(labels.as_slice(), kids) {
-                Some((labels.as_slice(), kids))
-            } else {
-                None
-            }
-        }
+        Op::RecordType(labels) => Some((labels.as_slice(), kids)),
         _ => None,
     }
 }
@@ -144,6 +147,8 @@ pub fn record_type(codes: &Codes, id: CodeId) -> Option<(&[Label], &[CodeKid])>
     ensures view { option_map (λ x. fields_of (code_core codes.now) x.0.now x.1.now) result ≡ as_record_type (code_core codes.now id) }
     ensures older { IfSome result (λ x. AreKidsBelow id x.1.now) }
     ensures lengths { IfSome result (λ x. length x.0.now ≡ length x.1.now) }
+    ensures ascends { IfSome result (λ x. IsTrue (ascending x.0.now)) }
+    ensures closed { IsClosed (code_core codes.now id) → IfSome result (λ x. AreClosedTypes (code_core codes.now) x.1.now) }
 {
     match shown(codes, id) {
         Some((op, kids)) => record_type_in(op, kids),
@@ -152,17 +157,12 @@ pub fn record_type(codes: &Codes, id: CodeId) -> Option<(&[Label], &[CodeKid])>
 }
 
 fn union_type_in<'a>(op: &'a Op, kids: &'a [CodeKid]) -> Option<(&'a [Alt], &'a [CodeKid])>
+    requires fits { (f : ℕ → Core) → IsTrue (fits op.now (code_row f kids.now)) }
     ensures view { (f : ℕ → Core) → option_map (λ x. alternatives_of f x.0.now x.1.now) result ≡ as_union_type (Node op.now (code_row f kids.now)) }
     ensures there { (n : ℕ) → AreKidsBelow n kids.now → IfSome result (λ x. AreKidsBelow n x.1.now) }
 {
     match op {
-        Op::Union(alts) => {
-            if are_plain(kids) {
-                Some((alts.as_slice(), kids))
-            } else {
-                None
-            }
-        }
+        Op::Union(alts) => Some((alts.as_slice(), kids)),
         _ => None,
     }
 }

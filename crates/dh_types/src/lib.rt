@@ -4,14 +4,22 @@
 //! a part of a type. Each view is its definition over what the code stands for.
 #![tactic(auto)]
 
+mod binders;
+mod building;
 mod heads;
 mod kinds;
 mod labels;
 mod nodes;
 mod rows;
+pub mod rules;
 mod sameness;
+mod steps;
 
+pub use binders::seen_outside;
+pub use building::{applied, bound, constant, function_type, node, plain_node, record_type_of};
 pub use heads::{builtin_of, is_constant, universe_of};
 pub use kinds::{application, argument_of, equivalence, forall, record_type, union_type};
+pub use labels::is_named;
 pub use nodes::shown;
 pub use sameness::same;
+pub use steps::{Found, Step, is_type};

@@ -1,0 +1,6 @@
+pub mod AlternativeLists
+pub mod Commons
+pub mod EntryLists
+pub mod FoundFields
+pub mod HandlerLists
+pub mod UniverseLists

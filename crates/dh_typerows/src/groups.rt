@@ -1,0 +1,144 @@
+//! The rule of a node of this group.
+
+ghost use Rattle.std.specs.Prelude.{◌≡◌, length, map, true, false, IfOk, IfSome};
+ghost use Rattle.std.specs.Option.{option_map};
+ghost use Rattle.dh_store.specs.Cells.{code_core, AreBelow, AreCoded};
+ghost use Rattle.dh_store.specs.Growth.{count};
+ghost use Rattle.dh_types.specs.Closed.{IsClosed};
+ghost use Rattle.dh_types.specs.Following.{course_of, facts_of, follow};
+ghost use Rattle.dh_types.specs.Growing.{Grows};
+ghost use Rattle.dh_types.specs.There.{IsFoundThere, IsStepThere};
+ghost use Rattle.dh_typerows.specs.Drafts.{draft_of, IsDraftBelow};
+ghost use Rattle.dh_typerows.specs.Groups.{is_named_op, row_ruling, AreTypesClosed, IsLabelled};
+
+use crate::drafts::{Draft, step};
+use crate::maps::to_map;
+use crate::merges::merge;
+use crate::records::{projection, record_literal, typed_projection};
+use crate::unions::selection;
+use crate::universes::greatest_of;
+use dh_store::{CodeId, Codes};
+use dh_syntax::Op;
+use dh_types::{Found, Step, rules};
+use std::alloc::{AllocError, Global};
+
+/// The rule of a node with labels, by the types of its parts.
+fn labelled(
+    alloc: Global,
+    codes: &Codes,
+    found: &Found,
+    op: &Op,
+    types: &[CodeId],
+) -> Result<Option<Draft>, AllocError>
+    requires coded { AreCoded codes.now }
+    requires found { IsFoundThere codes.now found.now }
+    requires types { AreBelow (count codes.now) types.now }
+    requires labelled { IsLabelled op.now (length types.now) }
+    requires closed { IfSome found.now.first (λ c. IsClosed (code_core codes.now c)) }
+    requires named { is_named_op op.now ≡ true }
+    ensures rule { IfOk result (λ o. option_map (draft_of (code_core codes.now)) o ≡ option_map (follow (facts_of (code_core codes.now) found.now)) (row_ruling op.now (map (code_core codes.now) types.now))) }
+    ensures there { IfOk result (λ o. IfSome o (IsDraftBelow (count codes.now))) }
+{
+    match op {
+        Op::Record(labels) => Ok(Some(record_literal(alloc, codes, labels, types)?)),
+        Op::Field(x) => match types {
+            [t] => Ok(Some(selection(alloc, codes, found, x, *t)?)),
+            [] => Ok(None),
+            [_t, _other, ..] => Ok(None),
+        },
+        Op::Project(xs) => match types {
+            [t] => Ok(Some(projection(alloc, codes, xs, *t)?)),
+            [] => Ok(None),
+            [_t, _other, ..] => Ok(None),
+        },
+        _ => Ok(None),
+    }
+}
+
+/// The rule of a node without labels, by the types of its parts.
+fn unlabelled(codes: &Codes, found: &Found, op: &Op, types: &[CodeId]) -> Option<Draft>
+    requires coded { AreCoded codes.now }
+    requires found { IsFoundThere codes.now found.now }
+    requires types { AreBelow (count codes.now) types.now }
+    requires closed { AreTypesClosed (code_core codes.now) types.now }
+    requires unnamed { is_named_op op.now ≡ false }
+    ensures rule { option_map (draft_of (code_core codes.now)) result ≡ option_map (follow (facts_of (code_core codes.now) found.now)) (row_ruling op.now (map (code_core codes.now) types.now)) }
+    ensures there { IfSome result (IsDraftBelow (count codes.now)) }
+{
+    match op {
+        Op::RecordType(_) => Some(greatest_of(codes, rules::FIELD_TYPE_NO_UNIVERSE, types)),
+        Op::Union(_) => Some(greatest_of(codes, rules::ALTERNATIVE_NO_UNIVERSE, types)),
+        Op::ProjectType => match types {
+            [t, _u] => Some(typed_projection(codes, found, *t)),
+            [] => None,
+            [_t] => None,
+            [_t, _u, _other, ..] => None,
+        },
+        Op::Merge(annotated) => match types {
+            [h, u, ..] => Some(merge(codes, found, *annotated, *h, *u)),
+            [] => None,
+            [_h] => None,
+        },
+        Op::ToMap(annotated) => match types {
+            [t, ..] => Some(to_map(codes, found, *annotated, *t)),
+            [] => None,
+        },
+        _ => None,
+    }
+}
+
+/// Whether a node of this group has labels that its rule needs.
+fn is_named_op(op: &Op) -> bool
+    ensures { result ≡ is_named_op op.now }
+{
+    matches!(op, Op::Record(_) | Op::Field(_) | Op::Project(_))
+}
+
+/// The rule of a node by the types of its parts.
+fn draft(
+    alloc: Global,
+    codes: &Codes,
+    found: &Found,
+    op: &Op,
+    types: &[CodeId],
+) -> Result<Option<Draft>, AllocError>
+    requires coded { AreCoded codes.now }
+    requires found { IsFoundThere codes.now found.now }
+    requires types { AreBelow (count codes.now) types.now }
+    requires labelled { IsLabelled op.now (length types.now) }
+    requires closed { AreTypesClosed (code_core codes.now) types.now }
+    requires found_closed { IfSome found.now.first (λ c. IsClosed (code_core codes.now c)) }
+    ensures rule { IfOk result (λ o. option_map (draft_of (code_core codes.now)) o ≡ option_map (follow (facts_of (code_core codes.now) found.now)) (row_ruling op.now (map (code_core codes.now) types.now))) }
+    ensures there { IfOk result (λ o. IfSome o (IsDraftBelow (count codes.now))) }
+{
+    if is_named_op(op) {
+        labelled(alloc, codes, found, op, types)
+    } else {
+        Ok(unlabelled(codes, found, op, types))
+    }
+}
+
+/// How far the rule of a node goes, by the types of its parts and what is known beside them; none for a node of another group,
+/// for `⫽`, `∧` and `⩓`, and for `with`.
+pub fn row_step(
+    alloc: Global,
+    codes: &mut Codes,
+    found: &Found,
+    op: &Op,
+    types: &[CodeId],
+) -> Result<Option<Step>, AllocError>
+    requires coded { AreCoded codes.old }
+    requires found { IsFoundThere codes.old found.now }
+    requires types { AreBelow (count codes.old) types.now }
+    requires labelled { IsLabelled op.now (length types.now) }
+    requires closed { AreTypesClosed (code_core codes.old) types.now }
+    requires found_closed { IfSome found.now.first (λ c. IsClosed (code_core codes.old c)) }
+    ensures grows { Grows codes.old codes.new }
+    ensures rule { IfOk result (λ s. option_map (course_of (code_core codes.new)) s ≡ option_map (follow (facts_of (code_core codes.old) found.now)) (row_ruling op.now (map (code_core codes.old) types.now))) }
+    ensures there { IfOk result (λ s. IfSome s (IsStepThere codes.new)) }
+{
+    match draft(alloc, codes, found, op, types)? {
+        Some(draft) => Ok(Some(step(alloc, codes, draft)?)),
+        None => Ok(None),
+    }
+}

@@ -1,0 +1,18 @@
+//! The rules of typing for records, record types, unions, selection, projection, `merge` and `toMap` (the standard's "Type
+//! inference", the sections named for these forms).
+//!
+//! A rule sees the types of a node's parts, as codes. It answers with a type, with the number of the rule that fails, or with
+//! what it wants to know of a part; the caller finds that out, and asks again.
+#![tactic(auto)]
+
+mod drafts;
+mod fields;
+mod groups;
+mod labels;
+mod maps;
+mod merges;
+mod records;
+mod unions;
+mod universes;
+
+pub use groups::row_step;
