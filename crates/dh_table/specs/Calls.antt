@@ -92,3 +92,9 @@ pub record Claims (worker : ℕ) (old new : Shown) (answer : Claimed) : Type 0 w
   pub may : MayMark old.keys mark (state_of old)
   pub answers : ClaimAnswers worker (after_mark old.keys mark (state_of old)) new answer
   pub adds : Adds old new (mark_steps mark ++ claim_steps worker answer)
+
+-- the root is undecided, no task is open, and one is in flight
+pub record IsIdle (s : State) : Type 0 where
+  pub undecided : root_end s ≡ None
+  pub none_open : (t : Task) → ¬ IsOpen s t
+  pub flies : ¬ (s.flights ≡ [])

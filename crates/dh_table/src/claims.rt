@@ -41,7 +41,7 @@ impl<W> Table<W> {
     }
 
     // An open task; `None` exactly where none is open.
-    fn find(&mut self) -> Option<Job>
+    pub(crate) fn find(&mut self) -> Option<Job>
         ensures found { IsFound (state_of self.old) self.old.keys result }
         ensures same { self.new ≡ self.old }
     {
@@ -94,7 +94,7 @@ impl<W> Table<W> {
     }
 
     // The number of the key that the root needs, where it is undecided.
-    fn need(&self) -> Option<u32>
+    pub(crate) fn need(&self) -> Option<u32>
         ensures none { IsNone result ↔ IsSome (root_end (state_of self.now)) }
         ensures some { IfSome result (λ n. (n < length self.now.keys) × (root_walk (state_of self.now) ≡ Needs (key_named self.now.keys n))) }
     {

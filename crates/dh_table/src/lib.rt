@@ -17,6 +17,7 @@ mod numbers;
 mod opening;
 mod orders;
 mod plans;
+mod queries;
 mod sameness;
 mod scratch;
 mod searches;
@@ -32,3 +33,6 @@ pub use news::{News, Noted, Parsed};
 pub use opening::OpenFault;
 pub use steps::{Kind, Step};
 pub use tables::{Table, Ticket};
+
+#[cfg(test)]
+mod tests;
