@@ -1,10 +1,19 @@
 -- Fields that codes hold.
-use Rattle.std.specs.Prelude.{ℕ, List, [], ◌∷◌}
+use Rattle.std.specs.Prelude.{ℕ, List, [], ◌∷◌, map}
 use Rattle.dh_syntax.specs.Expressions.Forms.{Fields}
 use Rattle.dh_syntax.specs.Expressions.Tree.{Name}
 use Rattle.dh_syntax.specs.Names.Nameless.{Ref, Core}
+use Rattle.dh_store.specs.declared.codes.CodeKid.{CodeKid}
 
 -- the fields with these labels, which hold what these codes stand for
 abbrev pub fields_with : (ℕ → Core) → List Name → List ℕ → Fields Ref Name
 fields_with f (x ∷ xs) (c ∷ cs) = (x, f c) ∷ fields_with f xs cs
 fields_with f _ _ = []
+
+-- the codes of these parts
+abbrev pub ids : List CodeKid → List ℕ
+ids ks = map (λ (k : CodeKid). k.code) ks
+
+-- what a field holds that both records have: what the second one has
+abbrev pub second : Core → Core → Core
+second d e = e

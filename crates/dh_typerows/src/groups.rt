@@ -14,15 +14,16 @@ ghost use Rattle.dh_typerows.specs.Groups.{is_named_op, row_ruling, AreTypesClos
 use crate::drafts::{Draft, step};
 use crate::maps::to_map;
 use crate::merges::merge;
+use crate::preferring::prefer;
 use crate::records::{projection, record_literal, typed_projection};
 use crate::unions::selection;
 use crate::universes::greatest_of;
 use dh_store::{CodeId, Codes};
-use dh_syntax::Op;
+use dh_syntax::{BinOp, Op};
 use dh_types::{Found, Step, rules};
 use std::alloc::{AllocError, Global};
 
-/// The rule of a node with labels, by the types of its parts.
+/// The rule of a node whose type may have labels of its own, by the types of its parts.
 fn labelled(
     alloc: Global,
     codes: &Codes,
@@ -51,11 +52,17 @@ fn labelled(
             [] => Ok(None),
             [_t, _other, ..] => Ok(None),
         },
+        Op::Bin(BinOp::Prefer) => match types {
+            [l, r] => Ok(Some(prefer(alloc, codes, *l, *r)?)),
+            [] => Ok(None),
+            [_l] => Ok(None),
+            [_l, _r, _other, ..] => Ok(None),
+        },
         _ => Ok(None),
     }
 }
 
-/// The rule of a node without labels, by the types of its parts.
+/// The rule of another node, by the types of its parts.
 fn unlabelled(codes: &Codes, found: &Found, op: &Op, types: &[CodeId]) -> Option<Draft>
     requires coded { AreCoded codes.now }
     requires found { IsFoundThere codes.now found.now }
@@ -87,11 +94,14 @@ fn unlabelled(codes: &Codes, found: &Found, op: &Op, types: &[CodeId]) -> Option
     }
 }
 
-/// Whether a node of this group has labels that its rule needs.
+/// Whether the type of a node of this group may have labels of its own.
 fn is_named_op(op: &Op) -> bool
     ensures { result ≡ is_named_op op.now }
 {
-    matches!(op, Op::Record(_) | Op::Field(_) | Op::Project(_))
+    matches!(
+        op,
+        Op::Record(_) | Op::Field(_) | Op::Project(_) | Op::Bin(BinOp::Prefer)
+    )
 }
 
 /// The rule of a node by the types of its parts.
@@ -119,7 +129,7 @@ fn draft(
 }
 
 /// How far the rule of a node goes, by the types of its parts and what is known beside them; none for a node of another group,
-/// for `⫽`, `∧` and `⩓`, and for `with`.
+/// for `∧` and `⩓`, and for `with`.
 pub fn row_step(
     alloc: Global,
     codes: &mut Codes,

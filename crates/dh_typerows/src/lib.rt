@@ -1,4 +1,4 @@
-//! The rules of typing for records, record types, unions, selection, projection, `merge` and `toMap` (the standard's "Type
+//! The rules of typing for records, record types, unions, selection, projection, `⫽`, `merge` and `toMap` (the standard's "Type
 //! inference", the sections named for these forms).
 //!
 //! A rule sees the types of a node's parts, as codes. It answers with a type, with the number of the rule that fails, or with
@@ -11,6 +11,7 @@ mod groups;
 mod labels;
 mod maps;
 mod merges;
+mod preferring;
 mod records;
 mod unions;
 mod universes;
