@@ -12,3 +12,6 @@ mod lists;
 mod operators;
 
 pub use groups::operator_step;
+
+#[cfg(test)]
+mod tests;
