@@ -27,7 +27,7 @@ fn known(normal: Option<CodeId>, universe: Option<Option<Builtin>>) -> Found
 
 /// How far the rule of a node with one part goes that has this type, and this normal form.
 fn one(alloc: Global, op: Op, t: Builtin, normal: Builtin) -> Result<Option<Step>, AllocError> {
-    let mut codes = Codes::new(alloc);
+    let mut codes = Codes::new(alloc)?;
     let t = constant(alloc, &mut codes, t)?;
     let normal = constant(alloc, &mut codes, normal)?;
     let found = known(Some(normal), Some(Some(Builtin::TypeConst)));
@@ -42,7 +42,7 @@ fn two(
     r: Builtin,
     universe: Option<Option<Builtin>>,
 ) -> Result<Option<Step>, AllocError> {
-    let mut codes = Codes::new(alloc);
+    let mut codes = Codes::new(alloc)?;
     let l = constant(alloc, &mut codes, l)?;
     let r = constant(alloc, &mut codes, r)?;
     operator_step(alloc, &mut codes, &known(None, universe), &op, &[l, r])

@@ -33,7 +33,7 @@ module _ (cs : Codes) (coded : AreCoded cs) (k : ℕ) where
   pub node-shown : (op : Op) (ks : List CodeKid) → slice_get cs.codes.items k ≡ Some (codes.Node op ks) → IsNode cs k op ks
   node-shown op ks h = record {
     core = code-Node cs coded k op ks h;
-    older = (along (IsCoded k) (get_or_from_slice_get cs.codes.items k _ (codes.Bound 0) h) (coded k (slice_get_within cs.codes.items k _ h))).0;
+    older = (along (IsCoded k) (get_or_from_slice_get cs.codes.items k _ (codes.Bound 0) h) (coded.each k (slice_get_within cs.codes.items k _ h))).0;
     there = kids-there cs coded k op ks h;
     fits = λ f. kids-fit cs coded k op ks f h;
     closed = closed-node (code_core cs k) op (code_core cs) ks (code-Node cs coded k op ks h);

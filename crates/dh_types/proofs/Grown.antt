@@ -27,7 +27,11 @@ same-codes old new e c = cc
 
 pub grows-same : (old new : Codes) → AreCoded old → new.codes.items ≡ old.codes.items → Grows old new
 grows-same old new coded e = record {
-  coded = along (λ is. (i : ℕ) → i < length is → IsCoded i (slice_index_or is i (codes.Bound 0))) (sym e) coded;
+  coded = record {
+    each = along (λ is. (i : ℕ) → i < length is → IsCoded i (slice_index_or is i (codes.Bound 0))) (sym e) coded.each;
+    later = coded.later;
+    first = e ∙ coded.first;
+  };
   more = (let p = ap length e in omega arith);
   cores = λ c h. same-codes old new e c;
 }
