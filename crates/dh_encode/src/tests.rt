@@ -2,8 +2,8 @@
 
 use crate::encode;
 use dh_syntax::{
-    Alt, BinOp, BoxedImport, Builtin, Digest, Expr, Import, Kid, Label, Labels, Loc, Many, Mode, Op, Piece, Url,
-    is_well_formed, nest,
+    Alt, BinOp, BoxedImport, Builtin, Digest, Expr, Import, Kid, Label, Labels, Loc, Many, Mode,
+    Op, Piece, Url, is_well_formed, nest,
 };
 use std::alloc::{AllocError, Global};
 use std::process::Abort;

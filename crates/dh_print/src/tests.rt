@@ -2,8 +2,8 @@
 
 use crate::print;
 use dh_syntax::{
-    Alt, BinOp, BoxedImport, Builtin, Digest, Expr, Import, Kid, Kids, Label, Labels, Loc, Many, Mode, Op,
-    Piece, Pieces, is_well_formed,
+    Alt, BinOp, BoxedImport, Builtin, Digest, Expr, Import, Kid, Kids, Label, Labels, Loc, Many,
+    Mode, Op, Piece, Pieces, is_well_formed,
 };
 use std::alloc::{AllocError, Global};
 use std::process::Abort;

@@ -2,7 +2,8 @@
 
 use crate::{alpha, fits_alpha, fits_shift, fits_subst, free, same, shift, subst};
 use dh_syntax::{
-    Alt, BinOp, BoxedImport, Builtin, Expr, Import, Kid, Kids, Label, Labels, Loc, Many, Mode, Op, Piece,
+    Alt, BinOp, BoxedImport, Builtin, Expr, Import, Kid, Kids, Label, Labels, Loc, Many, Mode, Op,
+    Piece,
 };
 use std::alloc::{AllocError, Global};
 use std::process::Abort;

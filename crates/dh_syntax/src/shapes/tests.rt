@@ -155,7 +155,13 @@ fn texts_and_paths_count(rt: HostRuntime) -> Result<(), Fail> {
     let none = pieces(rt.alloc(), &[])?;
     check(&rt, rt.alloc(), &Op::Text(none), "", false)?;
     let none = pieces(rt.alloc(), &[])?;
-    check(&rt, rt.alloc(), &import(rt.alloc(), Loc::Here(none))?, "", false)?;
+    check(
+        &rt,
+        rt.alloc(),
+        &import(rt.alloc(), Loc::Here(none))?,
+        "",
+        false,
+    )?;
     let none = labels(rt.alloc(), &[])?;
     check(&rt, rt.alloc(), &Op::With(none), "..", false)?;
     Ok(())
