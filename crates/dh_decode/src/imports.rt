@@ -8,7 +8,7 @@ ghost use Rattle.dh_decode.specs.Inside.Views.{part_of, digest_of, place_of, sta
 use crate::nodes::bare;
 use crate::parts::Part;
 use crate::places::{Place, Start};
-use dh_syntax::{Comps, Digest, Import, Loc, Many, Op, Piece, Url};
+use dh_syntax::{BoxedImport, Comps, Digest, Import, Loc, Many, Op, Piece, Url};
 use std::alloc::{AllocError, Global};
 
 /// A digest out of its box.
@@ -28,7 +28,8 @@ fn import_at(alloc: Global, start: Start, loc: Loc) -> Result<Part, AllocError>
 {
     let Start { digest, mode } = start;
     let digest = unboxed(digest);
-    bare(alloc, Op::Import(Import { loc, mode, digest }))
+    let import = BoxedImport::new(alloc, Import { loc, mode, digest })?;
+    bare(alloc, Op::Import(import))
 }
 
 /// What comes behind the scheme of a location.

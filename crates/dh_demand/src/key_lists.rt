@@ -88,7 +88,7 @@ fn import_of(op: &Op) -> Option<&Import>
     ensures { option_copied result ≡ import_of_form (form_of op.now) }
 {
     match op {
-        Op::Import(import) => Some(import),
+        Op::Import(import) => Some(import.get()),
         Op::Builtin(_) | Op::Bool(_) | Op::Nat(_) | Op::Int(_) | Op::Text(_) => None,
         Op::Lam | Op::Pi | Op::Let(_) | Op::App | Op::If | Op::Bin(_) => None,
         Op::EmptyList | Op::List | Op::Some | Op::Merge(_) | Op::RecordType(_) => None,

@@ -2,7 +2,7 @@
 
 use super::*;
 use dh_paths::loc_text;
-use dh_syntax::{Comps, Expr, Import, Key, Kid, Loc, Many, Mode, Op, Outcome, Piece};
+use dh_syntax::{BoxedImport, Comps, Expr, Import, Key, Kid, Loc, Many, Mode, Op, Outcome, Piece};
 use std::alloc::{AllocError, Global};
 use std::test::Fail;
 
@@ -45,25 +45,26 @@ fn path(alloc: Global, folder: &str, file: &str) -> Result<Comps, AllocError> {
     Ok(comps)
 }
 
-fn import(alloc: Global, loc: Loc, mode: Mode) -> Kid {
+fn import(alloc: Global, loc: Loc, mode: Mode) -> Result<Kid, AllocError> {
     let import = Import {
         loc,
         mode,
         digest: None,
     };
-    Kid {
+    let import = BoxedImport::new(alloc, import)?;
+    Ok(Kid {
         binder: None,
         body: Expr::Node(Op::Import(import), Many::new(alloc)),
-    }
+    })
 }
 
 #[test]
 fn keys_stand_in_the_order_of_imports(rt: HostRuntime) -> Result<(), Fail> {
     let alloc = rt.alloc();
     let mut kids = Many::new(alloc);
-    kids.push(import(alloc, Loc::Here(path(alloc, "", "a")?), Mode::Code))?;
-    kids.push(import(alloc, Loc::Parent(path(alloc, "", "b")?), Mode::Text))?;
-    kids.push(import(alloc, Loc::Missing, Mode::Code))?;
+    kids.push(import(alloc, Loc::Here(path(alloc, "", "a")?), Mode::Code)?)?;
+    kids.push(import(alloc, Loc::Parent(path(alloc, "", "b")?), Mode::Text)?)?;
+    kids.push(import(alloc, Loc::Missing, Mode::Code)?)?;
     let list = Expr::Node(Op::List, kids);
     let parent = Loc::Abs(path(alloc, "folder", "text")?);
     let keys = import_keys(alloc, &list, Some(&parent))?;

@@ -53,7 +53,7 @@ impl Writer {
             Op::Nat(n) => self.push_natural_literal(*n),
             Op::Int(n) => self.push_integer_literal(*n),
             Op::Text(pieces) => self.push_text_literal(pieces.as_slice(), kids),
-            Op::Import(import) => self.push_import(import),
+            Op::Import(import) => self.push_import(import.get()),
             Op::Lam => self.push_abstraction(1, kids),
             Op::Pi => self.push_abstraction(2, kids),
             Op::Let(typed) => self.push_let(*typed, kids),

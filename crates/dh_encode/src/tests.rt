@@ -2,8 +2,8 @@
 
 use crate::encode;
 use dh_syntax::{
-    Alt, BinOp, Builtin, Digest, Expr, Import, Kid, Label, Labels, Loc, Many, Mode, Op, Piece, Url,
-    is_well_formed, nest,
+    Alt, BinOp, BoxedImport, Builtin, Digest, Expr, Import, Kid, Label, Labels, Loc, Many, Mode,
+    Op, Piece, Url, is_well_formed, nest,
 };
 use std::alloc::{AllocError, Global};
 use std::process::Abort;
@@ -182,7 +182,7 @@ fn remote(alloc: Global) -> Result<Expr, AllocError> {
         mode: Mode::Location,
         digest: Some(Digest([7; 32])),
     };
-    Ok(leaf(alloc, Op::Import(import)))
+    Ok(leaf(alloc, Op::Import(BoxedImport::new(alloc, import)?)))
 }
 
 fn assert_encodes(rt: &impl Abort, alloc: Global, e: Expr, wanted: &[u8]) -> Result<(), Fail> {

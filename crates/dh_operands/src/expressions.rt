@@ -118,7 +118,7 @@ impl Makes for Expressions {
         digest: Option<Digest>,
         mode: Mode,
     ) -> Result<Operand, AllocError> {
-        Ok(Operand::import(alloc, source, digest, mode))
+        Operand::import(alloc, source, digest, mode)
     }
 
     fn operation(

@@ -9,8 +9,8 @@ use crate::gathering::kept;
 use crate::nodes::leaf;
 use crate::operands::Operand;
 use dh_making::{Source, Word};
-use dh_syntax::{Builtin, Digest, Expr, Import, Kids, Label, Many, Mode, Op};
-use std::alloc::Global;
+use dh_syntax::{BoxedImport, Builtin, Digest, Expr, Import, Kids, Label, Many, Mode, Op};
+use std::alloc::{AllocError, Global};
 
 impl Operand {
     pub fn natural(alloc: Global, n: u128) -> Operand
@@ -73,19 +73,25 @@ impl Operand {
     }
 
     /// An import.
-    pub fn import(alloc: Global, source: Source, digest: Option<Digest>, mode: Mode) -> Operand
-        ensures { operand_of result ≡ stubs.import (source_of source) digest mode }
+    pub fn import(
+        alloc: Global,
+        source: Source,
+        digest: Option<Digest>,
+        mode: Mode,
+    ) -> Result<Operand, AllocError>
+        ensures { IfOk result (λ o. operand_of o ≡ stubs.import (source_of source) digest mode) }
     {
         let import = Import {
             loc: source.into_location(),
             mode,
             digest,
         };
+        let import = BoxedImport::new(alloc, import)?;
         let expression = Expr::Node(Op::Import(import), Kids::new(alloc));
-        Operand {
+        Ok(Operand {
             part: kept(alloc, expression, 0),
             level: 15,
-        }
+        })
     }
 }
 

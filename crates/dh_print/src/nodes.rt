@@ -59,7 +59,7 @@ fn write_node(text: &mut String, op: &Op, kids: &[Kid]) -> Result<(), AllocError
         Op::Nat(n) => push_natural(text, *n),
         Op::Int(n) => push_integer(text, *n),
         Op::Text(pieces) => write_text(text, pieces.as_slice(), kids),
-        Op::Import(import) => write_import(text, import),
+        Op::Import(import) => write_import(text, import.get()),
         Op::Lam => {
             write_binder(text, "λ(", kids)?;
             write_parts(text, &[(" : ", ANY), (") → ", ANY)], kids)

@@ -2,8 +2,8 @@
 
 use crate::print;
 use dh_syntax::{
-    Alt, BinOp, Builtin, Digest, Expr, Import, Kid, Kids, Label, Labels, Loc, Many, Mode, Op,
-    Piece, Pieces, is_well_formed,
+    Alt, BinOp, BoxedImport, Builtin, Digest, Expr, Import, Kid, Kids, Label, Labels, Loc, Many,
+    Mode, Op, Piece, Pieces, is_well_formed,
 };
 use std::alloc::{AllocError, Global};
 use std::process::Abort;
@@ -216,7 +216,8 @@ fn import(alloc: Global) -> Result<Expr, AllocError> {
     let loc = Loc::Here(pieces(alloc, &["a b", "c"])?);
     let mode = Mode::Text;
     let digest = Some(Digest([0x0f; 32]));
-    Ok(leaf(alloc, Op::Import(Import { loc, mode, digest })))
+    let import = BoxedImport::new(alloc, Import { loc, mode, digest })?;
+    Ok(leaf(alloc, Op::Import(import)))
 }
 
 #[test]

@@ -4,7 +4,7 @@ ghost use Rattle.std.specs.Prelude.{◌≡◌, IfOk};
 
 use crate::copies::{copy, copy_alts, copy_labels, copy_name, copy_pieces};
 use crate::lists::Many;
-use crate::locations::Import;
+use crate::locations::BoxedImport;
 use crate::operators::{BinOp, Builtin};
 use crate::texts::{Label, Piece};
 use std::alloc::{AllocError, Global};
@@ -52,7 +52,7 @@ pub enum Op {
     Nat(u128),
     Int(i128),
     Text(Pieces),
-    Import(Import),
+    Import(BoxedImport),
     Lam,
     Pi,
     /// Whether the variable has a written type.

@@ -40,7 +40,7 @@ pub use limits::{
     MOST_TEXT_BYTES, MOST_WORKERS, WHOLE_PURSE, limits_agree,
 };
 pub use lists::Many;
-pub use locations::{Comps, Digest, Import, Key, Loc, Mode, Url};
+pub use locations::{BoxedImport, Comps, Digest, Import, Key, Loc, Mode, Url};
 pub use operators::{BinOp, Builtin};
 pub use outcomes::{Blame, Origin, Outcome, Why};
 pub use purses::Purse;

@@ -6,6 +6,7 @@ use crate::copies::copy_pieces;
 use crate::lists::Many;
 use crate::texts::Piece;
 use std::alloc::{AllocError, Global};
+use std::marker::Model;
 
 /// The components of a path, the file last.
 pub type Comps = Many<Piece>;
@@ -66,6 +67,42 @@ pub struct Key {
     pub loc: Loc,
     pub mode: Mode,
     pub digest: Option<Digest>,
+}
+
+/// An import in a box of its own, so that an operator is no larger than its other parts ask for.
+#[derive(Debug)]
+pub struct BoxedImport {
+    held: Box<Import>,
+}
+
+impl Model for BoxedImport {
+    ghost use Rattle.dh_syntax.specs.declared.locations.Import.{Import};
+
+    ghost Value = { Import };
+
+    ghost view = { λ b. b.held.value };
+}
+
+impl BoxedImport {
+    pub fn new(alloc: Global, import: Import) -> Result<BoxedImport, AllocError>
+        ensures { IfOk result (λ b. b ≡ import) }
+    {
+        let held = Box::new(alloc, import)?;
+        Ok(BoxedImport { held })
+    }
+
+    pub fn get(&self) -> &Import
+        ensures { result.now ≡ self.now }
+    {
+        &self.held
+    }
+
+    /// An equal import, in a box of its own.
+    pub fn copied(&self, alloc: Global) -> Result<BoxedImport, AllocError>
+        ensures { IfOk result (λ c. c ≡ self.now) }
+    {
+        BoxedImport::new(alloc, self.get().copied(alloc)?)
+    }
 }
 
 impl Url {
@@ -158,6 +195,12 @@ impl Drop for Import {
             mode: _,
             digest: _,
         } = self;
+    }
+}
+
+impl Drop for BoxedImport {
+    fn drop(self) {
+        let BoxedImport { held: _ } = self;
     }
 }
 

@@ -44,7 +44,7 @@ pub fn arity_ok(op: &Op, kids: &Kids) -> bool
     match op {
         Op::Builtin(_) | Op::Bool(_) | Op::Nat(_) | Op::Int(_) => is_plain(0, kids),
         Op::Text(pieces) => is_between(pieces, kids),
-        Op::Import(import) => has_comps(&import.loc) && is_plain(0, kids),
+        Op::Import(import) => has_comps(&import.get().loc) && is_plain(0, kids),
         Op::Lam | Op::Pi | Op::Let(false) => is_binding(1, kids),
         Op::Let(true) => is_binding(2, kids),
         Op::EmptyList | Op::Some | Op::Field(_) | Op::Assert => is_plain(1, kids),

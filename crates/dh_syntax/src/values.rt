@@ -45,7 +45,7 @@ fn assure_node(op: &Op)
         Op::Nat(value) => assure_natural(*value),
         Op::Int(value) => assure_integer(*value),
         Op::Text(pieces) => assure_pieces(pieces),
-        Op::Import(import) => assure_digest(&import.digest),
+        Op::Import(import) => assure_digest(&import.get().digest),
         _ => {}
     }
 }

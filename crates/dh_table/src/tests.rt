@@ -2,7 +2,7 @@
 
 use super::*;
 use dh_ports::Silent;
-use dh_syntax::{Digest, Expr, Import, Kid, Loc, Many, Mode, Op, Piece};
+use dh_syntax::{BoxedImport, Digest, Expr, Import, Kid, Loc, Many, Mode, Op, Piece};
 use std::alloc::{AllocError, Global};
 use std::test::Fail;
 
@@ -14,6 +14,7 @@ fn import(alloc: Global, file: &str, digest: Option<Digest>) -> Result<Kid, Allo
         mode: Mode::Code,
         digest,
     };
+    let import = BoxedImport::new(alloc, import)?;
     Ok(Kid {
         binder: None,
         body: Expr::Node(Op::Import(import), Many::new(alloc)),

@@ -115,6 +115,15 @@ mutual
   well_formed_row-moved m s end h = tt
   well_formed_row-moved m s (kid b e r) h = (well_formed-moved m (entered m s b) e h.0, well_formed_row-moved m s r h.1)
 
+mutual
+  pub well_formed-of_moved : {S A B C D : Type 0} (m : Move S A B C D) (s : S) (e : Tree A B) → IsWellFormed (moved m s e) → IsWellFormed e
+  well_formed-of_moved m s (Leaf a) h = tt
+  well_formed-of_moved m s (Node op r) h = (fits-same op r (moved_row m s r) (sym (shape-moved m s r)) ∙ h.0, well_formed_row-of_moved m s r h.1)
+
+  well_formed_row-of_moved : {S A B C D : Type 0} (m : Move S A B C D) (s : S) (r : Row A B) → AreWellFormed (moved_row m s r) → AreWellFormed r
+  well_formed_row-of_moved m s end h = tt
+  well_formed_row-of_moved m s (kid b e r) h = (well_formed-of_moved m (entered m s b) e h.0, well_formed_row-of_moved m s r h.1)
+
 shape-subst : (x : Name) (n : ℕ) (a : Term) (r : Row Var Name) → shape (subst_row x n a r) ≡ shape r
 shape-subst x n a end = refl
 shape-subst x n a (kid None e r) = ap (λ bs. false ∷ bs) (shape-subst x n a r)

@@ -164,7 +164,7 @@ pub fn is_same_op(o: &Op, p: &Op) -> bool
         (Op::Nat(m), Op::Nat(n)) => m == n,
         (Op::Int(m), Op::Int(n)) => m == n,
         (Op::Text(x), Op::Text(y)) => are_same_pieces(x.as_slice(), y.as_slice()),
-        (Op::Import(i), Op::Import(j)) => is_same_import(i, j),
+        (Op::Import(i), Op::Import(j)) => is_same_import(i.get(), j.get()),
         (Op::Lam, Op::Lam) => true,
         (Op::Pi, Op::Pi) => true,
         (Op::Let(b), Op::Let(c)) => b == c,

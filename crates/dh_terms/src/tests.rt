@@ -2,7 +2,8 @@
 
 use crate::{alpha, fits_alpha, fits_shift, fits_subst, free, same, shift, subst};
 use dh_syntax::{
-    Alt, BinOp, Builtin, Expr, Import, Kid, Kids, Label, Labels, Loc, Many, Mode, Op, Piece,
+    Alt, BinOp, BoxedImport, Builtin, Expr, Import, Kid, Kids, Label, Labels, Loc, Many, Mode, Op,
+    Piece,
 };
 use std::alloc::{AllocError, Global};
 use std::process::Abort;
@@ -308,12 +309,13 @@ fn union_type(alloc: Global) -> Result<Op, AllocError> {
     Ok(Op::Union(alts))
 }
 
-fn import() -> Op {
-    Op::Import(Import {
+fn import(alloc: Global) -> Result<Op, AllocError> {
+    let import = Import {
         loc: Loc::Missing,
         mode: Mode::Code,
         digest: None,
-    })
+    };
+    Ok(Op::Import(BoxedImport::new(alloc, import)?))
 }
 
 /// A node of this operator with so many kids under no binder, each of them this variable.
@@ -410,7 +412,7 @@ fn goes_into_the_kids_of_operators(rt: HostRuntime) -> Result<(), Fail> {
 fn goes_into_the_kids_of_operators_with_names(rt: HostRuntime) -> Result<(), Fail> {
     let a = rt.alloc();
     assert_goes_into_kids(&rt, a, &text(a)?, 1)?;
-    assert_goes_into_kids(&rt, a, &import(), 0)?;
+    assert_goes_into_kids(&rt, a, &import(a)?, 0)?;
     assert_goes_into_kids(&rt, a, &union_type(a)?, 1)?;
     assert_goes_into_kids(&rt, a, &Op::Field(Label::new(a, "a")?), 1)?;
     assert_goes_into_kids(&rt, a, &Op::RecordType(labels(a, &["a", "b"])?), 2)?;

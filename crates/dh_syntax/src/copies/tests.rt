@@ -1,8 +1,9 @@
 //! That copies of every kind are made where memory is ample. Want of memory is free in their clauses, which say that a
 //! copy that is made is equal.
 use crate::{
-    Alt, BinOp, Blame, Builtin, Bytes, Comps, Digest, Expr, Ill, Import, Key, Kid, Label, Labels,
-    Loc, Many, Mode, NormFault, Op, Origin, Outcome, ParseFault, Piece, TypeFault, Url, Why,
+    Alt, BinOp, Blame, BoxedImport, Builtin, Bytes, Comps, Digest, Expr, Ill, Import, Key, Kid,
+    Label, Labels, Loc, Many, Mode, NormFault, Op, Origin, Outcome, ParseFault, Piece, TypeFault,
+    Url, Why,
 };
 use std::alloc::{AllocError, Global};
 use std::test::Fail;
@@ -97,7 +98,7 @@ fn operators_are_copied(rt: HostRuntime) -> Result<(), Fail> {
         Op::Nat(u128::MAX),
         Op::Int(i128::MIN),
         Op::Text(comps(alloc)?),
-        Op::Import(import),
+        Op::Import(BoxedImport::new(alloc, import)?),
         Op::Lam,
         Op::Pi,
         Op::Let(true),

@@ -3,7 +3,7 @@
 use super::*;
 use crate::expressions::Alts;
 use crate::lists::Many;
-use crate::locations::{Import, Mode};
+use crate::locations::{BoxedImport, Import, Mode};
 use crate::operators::{BinOp, Builtin};
 use crate::texts::Piece;
 use std::alloc::{AllocError, Global};
@@ -55,12 +55,13 @@ fn pieces(alloc: Global, texts: &[&str]) -> Result<Pieces, AllocError> {
     Ok(pieces)
 }
 
-fn import(loc: Loc) -> Op {
-    Op::Import(Import {
+fn import(alloc: Global, loc: Loc) -> Result<Op, AllocError> {
+    let import = Import {
         loc,
         mode: Mode::Code,
         digest: None,
-    })
+    };
+    Ok(Op::Import(BoxedImport::new(alloc, import)?))
 }
 
 /// The operator takes the kids of these marks, or does not.
@@ -148,13 +149,19 @@ fn texts_and_paths_count(rt: HostRuntime) -> Result<(), Fail> {
     for (texts, marks) in &rows {
         let literal = Op::Text(pieces(rt.alloc(), texts)?);
         check(&rt, rt.alloc(), &literal, marks, true)?;
-        let path = import(Loc::Here(pieces(rt.alloc(), texts)?));
+        let path = import(rt.alloc(), Loc::Here(pieces(rt.alloc(), texts)?))?;
         check(&rt, rt.alloc(), &path, "", true)?;
     }
     let none = pieces(rt.alloc(), &[])?;
     check(&rt, rt.alloc(), &Op::Text(none), "", false)?;
     let none = pieces(rt.alloc(), &[])?;
-    check(&rt, rt.alloc(), &import(Loc::Here(none)), "", false)?;
+    check(
+        &rt,
+        rt.alloc(),
+        &import(rt.alloc(), Loc::Here(none))?,
+        "",
+        false,
+    )?;
     let none = labels(rt.alloc(), &[])?;
     check(&rt, rt.alloc(), &Op::With(none), "..", false)?;
     Ok(())

@@ -10,4 +10,6 @@ returns c =
     ap (at 15)
     (c.kept.ensures
     ∙ ap (λ t. kept t 0)
-    (no_part _ _ c.new.ensures ∙ ap (λ l. Node (ops.Import (record { loc = l; mode = c.args.mode; digest = c.args.digest })) end) c.into_location.ensures))
+    (no_part _ _ c.new-2.ensures
+    ∙ ap (λ i. Node (ops.Import i) end) c.in_ok-import.ensures
+    ∙ ap (λ l. Node (ops.Import (record { loc = l; mode = c.args.mode; digest = c.args.digest })) end) c.into_location.ensures))
