@@ -1,6 +1,6 @@
 -- What codes are.
-use Rattle.std.specs.Prelude.{◌≡◌, ◌<◌, ◌≤◌, ◌+◌, ℕ, zero, suc, List, [], ◌∷◌, length, Option, Some, None, slice_get, slice_index_or, refl}
-use Rattle.std.proofs.Common.{ap, sym, ◌∙◌, arith, get_or, subst as along}
+use Rattle.std.specs.Prelude.{◌≡◌, ◌≤◌, ℕ, zero, suc, List, [], ◌∷◌, length, Some, None, slice_get, refl}
+use Rattle.std.proofs.Common.{◌∙◌, arith, subst as along}
 use Rattle.std.proofs.lemmas.Option.{slice_get_within, get_or_from_slice_get}
 use Rattle.dh_syntax.specs.declared.expressions.Op.{Op}
 use Rattle.dh_syntax.specs.Expressions.Tree.{Name}

@@ -1,6 +1,10 @@
+pub mod BoundTypes
 pub mod BoundVariables
+pub mod ChangedCodes
+pub mod ChangedRows
 pub mod ClosedCores
 pub mod ClosedParts
+pub mod ClosedRulings
 pub mod CodeNodes
 pub mod FreeVariables
 pub mod Grown
