@@ -2,6 +2,7 @@ pub mod BoundTypes
 pub mod BoundVariables
 pub mod ChangedCodes
 pub mod ChangedRows
+pub mod ClosedCodes
 pub mod ClosedCores
 pub mod ClosedParts
 pub mod ClosedRulings
