@@ -6,6 +6,7 @@ ghost use Rattle.dh_syntax.specs.Names.Nameless.{to_core};
 ghost use Rattle.dh_syntax.specs.Typing.BuiltinTypes.{type_of};
 ghost use Rattle.dh_store.specs.Cells.{code_core, AreCoded};
 ghost use Rattle.dh_store.specs.Growth.{count};
+ghost use Rattle.dh_types.specs.Closed.{IsClosed};
 ghost use Rattle.dh_types.specs.Growing.{Grows};
 
 use crate::pieces::between;
@@ -15,12 +16,8 @@ use dh_syntax::Builtin;
 use dh_types::constant;
 use std::alloc::{AllocError, Global};
 
-/// The type of a built-in; none for `Sort`.
-pub fn type_of(
-    alloc: Global,
-    codes: &mut Codes,
-    builtin: Builtin,
-) -> Result<Option<CodeId>, AllocError>
+/// Adds the type of a built-in; none for `Sort`.
+fn built(alloc: Global, codes: &mut Codes, builtin: Builtin) -> Result<Option<CodeId>, AllocError>
     requires coded { AreCoded codes.old }
     ensures grows { Grows codes.old codes.new }
     ensures core { IfOk result (λ t. option_map (code_core codes.new) t ≡ option_map to_core (type_of builtin)) }
@@ -59,4 +56,19 @@ pub fn type_of(
         Builtin::TextReplace => functions::replace(alloc, codes)?,
     };
     Ok(Some(code))
+}
+
+/// The type of a built-in; none for `Sort`.
+pub fn type_of(
+    alloc: Global,
+    codes: &mut Codes,
+    builtin: Builtin,
+) -> Result<Option<CodeId>, AllocError>
+    requires coded { AreCoded codes.old }
+    ensures grows { Grows codes.old codes.new }
+    ensures core { IfOk result (λ t. option_map (code_core codes.new) t ≡ option_map to_core (type_of builtin)) }
+    ensures there { IfOk result (λ t. IfSome t (λ c. c < count codes.new)) }
+    ensures closed { IfOk result (λ t. IfSome t (λ c. IsClosed (code_core codes.new c))) }
+{
+    built(alloc, codes, builtin)
 }

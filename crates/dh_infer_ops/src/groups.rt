@@ -6,6 +6,7 @@ ghost use Rattle.dh_syntax.specs.Typing.NamelessTyping.{core_scopes};
 ghost use Rattle.dh_syntax.specs.Typing.TypeRulesOperators.{operator, operator_ruling};
 ghost use Rattle.dh_store.specs.Cells.{code_core, AreBelow, AreCoded};
 ghost use Rattle.dh_store.specs.Growth.{count};
+ghost use Rattle.dh_types.specs.ClosedSteps.{AreTypesClosed, IsFoundClosed, IsStepClosed};
 ghost use Rattle.dh_types.specs.Following.{course_of, facts_of, follow};
 ghost use Rattle.dh_types.specs.Growing.{Grows};
 ghost use Rattle.dh_types.specs.There.{IsFoundThere, IsStepThere};
@@ -85,8 +86,8 @@ fn draft(codes: &Codes, found: &Found, op: &Op, types: &[CodeId]) -> Option<Draf
     }
 }
 
-/// How far the rule of a node goes, by the types of its parts and what is known beside them; none for a node of another group.
-pub fn operator_step(
+/// How far the rule of a node goes.
+fn answer(
     alloc: Global,
     codes: &mut Codes,
     found: &Found,
@@ -104,4 +105,25 @@ pub fn operator_step(
         Some(draft) => Ok(Some(step(alloc, codes, draft)?)),
         None => Ok(None),
     }
+}
+
+/// How far the rule of a node goes, by the types of its parts and what is known beside them; none for a node of another group.
+pub fn operator_step(
+    alloc: Global,
+    codes: &mut Codes,
+    found: &Found,
+    op: &Op,
+    types: &[CodeId],
+) -> Result<Option<Step>, AllocError>
+    requires coded { AreCoded codes.old }
+    requires found { IsFoundThere codes.old found.now }
+    requires types { AreBelow (count codes.old) types.now }
+    requires closed { AreTypesClosed (code_core codes.old) types.now }
+    requires found_closed { IsFoundClosed (code_core codes.old) found.now }
+    ensures grows { Grows codes.old codes.new }
+    ensures rule { IfOk result (λ s. option_map (course_of (code_core codes.new)) s ≡ option_map (follow (facts_of (code_core codes.old) found.now)) (operator_ruling core_scopes op.now (map (code_core codes.old) types.now))) }
+    ensures there { IfOk result (λ s. IfSome s (IsStepThere codes.new)) }
+    ensures closed { IfOk result (λ s. IfSome s (IsStepClosed (code_core codes.new))) }
+{
+    answer(alloc, codes, found, op, types)
 }

@@ -1,8 +1,11 @@
 //! What the contracts do not say: that each rule answers where memory is at hand.
 
-ghost use Rattle.std.specs.Prelude.{◌<◌, IfSome};
+ghost use Rattle.std.specs.Prelude.{◌<◌, ℕ, IfSome};
+ghost use Rattle.dh_syntax.specs.Names.Nameless.{Core};
 ghost use Rattle.dh_store.specs.declared.codes.Codes.{Codes};
 ghost use Rattle.dh_store.specs.Growth.{count};
+ghost use Rattle.dh_types.specs.Closed.{IsClosed};
+ghost use Rattle.dh_types.specs.ClosedSteps.{IsFoundClosed};
 ghost use Rattle.dh_types.specs.There.{IsFoundThere};
 
 use crate::operator_step;
@@ -14,7 +17,8 @@ use std::test::Fail;
 
 /// The same normal form and the same universe for each part.
 fn known(normal: Option<CodeId>, universe: Option<Option<Builtin>>) -> Found
-    ensures { (cs : Codes) → IfSome normal (λ c. c < count cs) → IsFoundThere cs result }
+    ensures there { (cs : Codes) → IfSome normal (λ c. c < count cs) → IsFoundThere cs result }
+    ensures closed { (f : ℕ → Core) → IfSome normal (λ c. IsClosed (f c)) → IsFoundClosed f result }
 {
     Found {
         first: normal,

@@ -135,7 +135,7 @@ missing-at fs xs i x h e p = missing-one fs xs i x h (p ∙ ap (λ y. field_at y
 
 -- ---- projection
 
-from-some : {X : Type 0} (P : X → Type 0) (o : Option X) (x : X) → o ≡ Some x → IfSome o P → P x
+pub from-some : {X : Type 0} (P : X → Type 0) (o : Option X) (x : X) → o ≡ Some x → IfSome o P → P x
 from-some P o x e h = along (λ q. IfSome q P) e h
 
 module _ (facts : Facts Core) (f : ℕ → Core) (t : Core) (ls : List Name) (ks : List CodeKid) (xs ys zs : List Name) (cs : List ℕ) (same : ys ≡ xs) (copied : zs ≡ xs) (view : Some (fields_of f ls ks) ≡ as_record_type t) where
@@ -149,3 +149,10 @@ module _ (facts : Facts Core) (f : ℕ → Core) (t : Core) (ls : List Name) (ks
       ap (λ ws. Forms (Node (ops.RecordType ws) (plain_row (map f cs)))) copied
       ∙ ap Forms (sym (record-with f xs cs (ap length (sym same) ∙ lengths)))
       ∙ forms (fields_with f xs cs) (along (λ ws. Some (fields_with f ws cs) ≡ fields_at ws (fields_of f ls ks)) same (ap (option_map (λ ds. fields_with f ys ds)) (sym e) ∙ p))
+
+pub kid-in : (n : ℕ) (ks : List CodeKid) (i : ℕ) (k : CodeKid) → AreKidsBelow n ks → i < length ks → k ≡ get_or ks i k → k.code < n
+kid-in n ks i k b h e = along (λ (j : CodeKid). j.code < n) (sym e) (kid-below n ks i k b h)
+
+-- what holds of a number that is there
+pub some-there : (P : ℕ → Type 0) (o : Option ℕ) (c : ℕ) → o ≡ Some c → IfSome o P → P c
+some-there P o c e h = from-some P o c e h

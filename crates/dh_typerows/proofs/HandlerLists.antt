@@ -57,7 +57,7 @@ labels-count (x ∷ xs) (a ∷ as') h = ap suc (labels-count xs as' (and-second 
 
 -- ---- one more handler
 
-field-at : (f : ℕ → Core) (xs : List Name) (ks : List CodeKid) (i : ℕ) (x : Name) (k : CodeKid) → i < length xs → i < length ks
+pub field-at : (f : ℕ → Core) (xs : List Name) (ks : List CodeKid) (i : ℕ) (x : Name) (k : CodeKid) → i < length xs → i < length ks
     → fields_of f (drop i xs) (drop i ks) ≡ (get_or xs i x, f (get_or ks i k).code) ∷ fields_of f (drop (i + 1) xs) (drop (i + 1) ks)
 field-at f xs ks i x k h l = ap (λ ys. fields_of f ys (drop i ks)) (drop_more xs i x h) ∙ ap (fields_of f (get_or xs i x ∷ drop (i + 1) xs)) (drop_more ks i k l)
 

@@ -1,7 +1,11 @@
 pub mod AlternativeLists
+pub mod CombinedTypes
 pub mod Commons
 pub mod EntryLists
 pub mod FoundFields
 pub mod HandlerLists
+pub mod JoinedFields
+pub mod JoinedRecords
+pub mod PathLevels
 pub mod PickedFields
 pub mod UniverseLists

@@ -1,8 +1,11 @@
+pub mod Combining
 pub mod Drafts
 pub mod Entries
 pub mod Fields
 pub mod Greatest
 pub mod Groups
+pub mod Joining
 pub mod Mapping
 pub mod Merging
 pub mod Selections
+pub mod Updating

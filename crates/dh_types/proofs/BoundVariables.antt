@@ -1,6 +1,6 @@
 -- Whether a variable is that of a binder above.
-use Rattle.std.specs.Prelude.{◌≡◌, ◌<◌, ◌≤◌, ◌+◌, ℕ, Bool, true, false, nat_eq, Option, Some, None, pred, if◌then◌else◌}
-use Rattle.std.proofs.Common.{ap, sym, ◌∙◌, arith}
+use Rattle.std.specs.Prelude.{◌≡◌, ℕ, false, nat_eq, Some, None, pred, if◌then◌else◌}
+use Rattle.std.proofs.Common.{ap, sym, ◌∙◌}
 use Rattle.dh_syntax.specs.Expressions.Tree.{Leaf}
 use Rattle.dh_syntax.specs.Names.Nameless as ref
 use Rattle.dh_syntax.specs.Names.Nameless.{Core, ren}

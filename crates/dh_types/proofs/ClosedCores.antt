@@ -1,23 +1,23 @@
 -- What has no loose variable is itself wherever it stands.
-use Rattle.std.specs.Prelude.{◌≡◌, ◌⊎◌, ◌||◌, ℕ, zero, suc, pred, Bool, true, false, Option, Some, None, if◌then◌else◌, refl}
+use Rattle.std.specs.Prelude.{◌≡◌, ◌⊎◌, ◌||◌, ℕ, zero, suc, pred, Bool, true, false, Option, Some, None, refl}
 use Rattle.std.proofs.Common.{ap, sym, ◌∙◌, arith, inl, inr}
 use Rattle.std.proofs.lemmas.Bool.{false≢true}
 use Rattle.dh_syntax.specs.declared.expressions.Op.{Op}
 use Rattle.dh_syntax.specs.Expressions.Numbers.{eq}
-use Rattle.dh_syntax.specs.Expressions.Tree.{Tree, Row, Leaf, Node, end, kid, Name}
-use Rattle.dh_syntax.specs.Names.Moves.{moved_binder, moved_row, entered}
+use Rattle.dh_syntax.specs.Expressions.Tree.{Row, Leaf, Node, end, kid, Name}
+use Rattle.dh_syntax.specs.Names.Moves.{moved_row}
 use Rattle.dh_syntax.specs.Names.Nameless.{Ref, Bound, Free, Core, lifted, ren, renaming}
-use Rattle.dh_syntax.specs.Typing.NamelessTyping.{above, down, mentions, mentions_row}
-use Rattle.dh_types.specs.Closed.{IsClosed, IsClosedBelow}
+use Rattle.dh_syntax.specs.Typing.NamelessTyping.{mentions, mentions_row}
+use Rattle.dh_types.specs.Closed.{IsClosedBelow}
 
 -- a renaming f that keeps only what h keeps, or what is not mentioned
-abbrev Keeps : ℕ → (ℕ → ℕ) → (ℕ → ℕ) → Type 0
+abbrev pub Keeps : ℕ → (ℕ → ℕ) → (ℕ → ℕ) → Type 0
 Keeps k f h = (i : ℕ) → f i ≡ i → (eq i k ≡ true) ⊎ (h i ≡ i)
 
 suc-once : {m n : ℕ} → suc m ≡ suc n → m ≡ n
 suc-once p = ap pred p
 
-lifted-keeps : (k : ℕ) (f h : ℕ → ℕ) → Keeps k f h → Keeps (suc k) (lifted f) (lifted h)
+pub lifted-keeps : (k : ℕ) (f h : ℕ → ℕ) → Keeps k f h → Keeps (suc k) (lifted f) (lifted h)
 lifted-keeps k f h keeps zero e = inr refl
 lifted-keeps k f h keeps (suc i) e = by (keeps i (suc-once e))
   where
@@ -25,7 +25,7 @@ lifted-keeps k f h keeps (suc i) e = by (keeps i (suc-once e))
     by (inl p) = inl p
     by (inr p) = inr (ap suc p)
 
-abbrev variable : ℕ → Core
+abbrev pub variable : ℕ → Core
 variable i = Leaf (Bound i)
 
 abbrev node : Op → Row Ref Name → Core
@@ -35,7 +35,7 @@ abbrev bound_of : Core → ℕ
 bound_of (Leaf (Bound i)) = i
 bound_of e = 0
 
-leaf-once : (i j : ℕ) → variable i ≡ variable j → i ≡ j
+pub leaf-once : (i j : ℕ) → variable i ≡ variable j → i ≡ j
 leaf-once i j e = ap bound_of e
 
 abbrev row_of : Core → Row Ref Name
@@ -73,7 +73,7 @@ or-second true b h = absurd (false≢true (sym h))
 module _ where
   mutual
     -- what such a renaming f keeps, h keeps where k is not mentioned
-    kept : (k : ℕ) (f h : ℕ → ℕ) → Keeps k f h → (e : Core) → ren f e ≡ e → mentions k e ≡ false → ren h e ≡ e
+    pub kept : (k : ℕ) (f h : ℕ → ℕ) → Keeps k f h → (e : Core) → ren f e ≡ e → mentions k e ≡ false → ren h e ≡ e
     kept k f h keeps (Leaf (Bound i)) p m = ap (λ j. Leaf (Bound j)) (by (keeps i (leaf-once (f i) i p)))
       where
         by : (eq i k ≡ true) ⊎ (h i ≡ i) → h i ≡ i

@@ -1,8 +1,10 @@
 -- What codes are.
-use Rattle.std.specs.Prelude.{◌≡◌, ◌<◌, ◌≤◌, ◌+◌, ℕ, zero, suc, List, [], ◌∷◌, length, Option, Some, None, slice_get, slice_index_or, refl}
-use Rattle.std.proofs.Common.{ap, sym, ◌∙◌, arith, get_or, subst as along}
+use Rattle.std.specs.Prelude.{◌≡◌, ◌≤◌, ℕ, zero, suc, List, [], ◌∷◌, length, Some, None, slice_get, refl, Option, IsTrue}
+use Rattle.std.proofs.Common.{sym, ◌∙◌, arith, subst as along}
 use Rattle.std.proofs.lemmas.Option.{slice_get_within, get_or_from_slice_get}
 use Rattle.dh_syntax.specs.declared.expressions.Op.{Op}
+use Rattle.dh_syntax.specs.Expressions.Arity.{fits}
+use Rattle.dh_syntax.specs.Expressions.Tree as tree
 use Rattle.dh_syntax.specs.Expressions.Tree.{Name}
 use Rattle.dh_syntax.specs.Names.Nameless as ref
 use Rattle.dh_syntax.specs.Names.Nameless.{Core}
@@ -52,3 +54,19 @@ module _ (cs : Codes) (coded : AreCoded cs) (k : ℕ) where
 
   pub free-leaf : (x : Name) (n : ℕ) → slice_get cs.codes.items k ≡ Some (codes.Free x n) → IsLeaf (code_core cs k)
   free-leaf x n h = (outside x n, code-Free cs coded k x n h)
+
+-- an expression whose root has the parts of its operator
+abbrev pub IsFitting : Core → Type 0
+IsFitting (tree.Leaf r) = Unit {0}
+IsFitting (tree.Node op r) = IsTrue (fits op r)
+
+module _ (cs : Codes) (coded : AreCoded cs) (k : ℕ) where
+  fitting-form : (o : Option Code) → slice_get cs.codes.items k ≡ o → IsFitting (code_core cs k)
+  fitting-form None h = along IsFitting (sym (absent-nothing cs coded k h)) tt
+  fitting-form (Some (codes.Bound i)) h = along IsFitting (sym (code-Bound cs coded k i h)) tt
+  fitting-form (Some (codes.Free x n)) h = along IsFitting (sym (code-Free cs coded k x n h)) tt
+  fitting-form (Some (codes.Node op ks)) h = along IsFitting (sym (code-Node cs coded k op ks h)) (kids-fit cs coded k op ks (code_core cs) h)
+
+  -- each code has the parts of its operator
+  pub code-fitting : IsFitting (code_core cs k)
+  code-fitting = fitting-form (slice_get cs.codes.items k) refl

@@ -1,10 +1,9 @@
 -- Whether two variables that no binder binds are equal.
-use Rattle.std.specs.Prelude.{◌≡◌, ◌+◌, ◌^◌, ℕ, Bool, true, false, ◌&&◌, ◌==◌, nat_eq, [], ◌∷◌, refl}
+use Rattle.std.specs.Prelude.{◌≡◌, ◌+◌, ◌^◌, ℕ, Bool, true, false, ◌&&◌, nat_eq, [], ◌∷◌, refl}
 use Rattle.std.proofs.Common.{ap, sym, ◌∙◌, arith}
 use Rattle.std.proofs.Math.Bool.{and-false}
 use Rattle.dh_syntax.specs.Expressions.Numbers.{eq, bytes_eq}
 use Rattle.dh_syntax.specs.Expressions.Tree.{Name}
-use Rattle.dh_syntax.specs.Names.Nameless as ref
 use Rattle.dh_syntax.specs.Normalising.NamelessRuns.{ref_eq}
 use Rattle.dh_syntax.proofs.NativeTests.{eq-native}
 use Rattle.dh_syntax.proofs.Numbers.{eq-itself, eq-true}

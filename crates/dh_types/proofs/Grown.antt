@@ -1,5 +1,5 @@
 -- Codes that are made over older ones stand for what they were made for.
-use Rattle.std.specs.Prelude.{◌≡◌, ◌<◌, ◌≤◌, ◌+◌, ◌++◌, ℕ, zero, suc, List, [], ◌∷◌, map, length, Option, Some, None, Result, Ok, Err, IfOk, OnErr, slice_get, slice_index_or, true, IsTrue, refl}
+use Rattle.std.specs.Prelude.{◌≡◌, ◌<◌, ◌++◌, ℕ, zero, suc, List, [], ◌∷◌, map, length, Some, None, Result, Ok, Err, IfOk, OnErr, slice_get, slice_index_or, true, IsTrue, refl}
 use Rattle.std.proofs.Common.{ap, sym, ◌∙◌, arith, subst as along}
 use Rattle.dh_syntax.specs.declared.expressions.Op.{Op}
 use Rattle.dh_syntax.specs.declared.expressions.Op.TheVariants as ops
@@ -117,6 +117,11 @@ plain-below n (i ∷ is) b = (b.0, plain-below n is b.1)
 pub stands-as : {E : Type 0} (cs : Codes) (r : Result ℕ E) (e f : Core) → e ≡ f → IfOk r (λ c. Stands cs c e) → IfOk r (λ c. Stands cs c f)
 stands-as cs (Ok c) e f p s = stands-with cs c e f p s
 stands-as cs (Err x) e f p s = tt
+
+-- what holds of the expression that a code stands for
+pub made-as : {E : Type 0} (P : Core → Type 0) (cs : Codes) (r : Result ℕ E) (e : Core) → P e → IfOk r (λ c. Stands cs c e) → IfOk r (λ c. P (code_core cs c))
+made-as P cs (Ok c) e p s = along P (sym s.core) p
+made-as P cs (Err x) e p s = tt
 
 -- ---- one more variable
 

@@ -1,6 +1,11 @@
+pub mod BoundTypes
 pub mod BoundVariables
+pub mod ChangedCodes
+pub mod ChangedRows
+pub mod ClosedCodes
 pub mod ClosedCores
 pub mod ClosedParts
+pub mod ClosedRulings
 pub mod CodeNodes
 pub mod FreeVariables
 pub mod Grown

@@ -1,7 +1,11 @@
+pub mod Binding
 pub mod Closed
+pub mod ClosedSteps
 pub mod Constants
 pub mod Following
 pub mod Growing
+pub mod Inside
+pub mod Memos
 pub mod Parts
 pub mod SeenCodes
 pub mod Shown

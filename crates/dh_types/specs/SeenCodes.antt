@@ -1,6 +1,5 @@
 -- What a code is.
 use Rattle.std.specs.Prelude.{◌≡◌, ℕ}
-use Rattle.std.specs.Borrow.{Bor}
 use Rattle.dh_syntax.specs.Expressions.Tree.{Leaf}
 use Rattle.dh_syntax.specs.Names.Nameless as ref
 use Rattle.dh_store.specs.declared.codes.Codes.{Codes}

@@ -1,5 +1,5 @@
 -- Codes that are there.
-use Rattle.std.specs.Prelude.{◌<◌, Option, IfSome}
+use Rattle.std.specs.Prelude.{◌<◌, IfSome}
 use Rattle.dh_store.specs.declared.codes.Codes.{Codes}
 use Rattle.dh_store.specs.Growth.{count}
 use Rattle.dh_types.specs.declared.steps.Found.{Found}

@@ -9,6 +9,7 @@ ghost use Rattle.dh_syntax.specs.Expressions.Tree.{Leaf, Node as node_of};
 ghost use Rattle.dh_syntax.specs.Names.Nameless as ref;
 ghost use Rattle.dh_store.specs.Cells.{code_core, code_row, nothing, takes, AreBelow, AreCoded, AreKidsBelow};
 ghost use Rattle.dh_store.specs.Growth.{count};
+ghost use Rattle.dh_types.specs.Closed.{IsClosed, IsClosedBelow};
 ghost use Rattle.dh_types.specs.Growing.{plain_kid, Grows, Stands};
 
 use dh_store::{Code, CodeId, CodeKid, Codes};
@@ -125,6 +126,7 @@ pub fn function_type(
     requires range { range < count codes.old }
     ensures grows { Grows codes.old codes.new }
     ensures made { IfOk result (λ c. Stands codes.new c (form.forall x (code_core codes.old domain) (code_core codes.old range))) }
+    ensures closed { IsClosed (code_core codes.old domain) → IsClosedBelow (code_core codes.old range) → IfOk result (λ c. IsClosed (code_core codes.new c)) }
 {
     let mut kids = Many::new(alloc);
     kids.push(plain(domain))?;

@@ -5,10 +5,13 @@
 #![tactic(auto)]
 
 mod binders;
+mod binding;
 mod building;
+mod changes;
 mod heads;
 mod kinds;
 mod labels;
+mod memos;
 mod nodes;
 mod rows;
 pub mod rules;
@@ -16,10 +19,12 @@ mod sameness;
 mod steps;
 
 pub use binders::seen_outside;
+pub use binding::{bound_in, opened};
 pub use building::{applied, bound, constant, function_type, node, plain_node, record_type_of};
 pub use heads::{builtin_of, is_constant, universe_of};
 pub use kinds::{application, argument_of, equivalence, forall, record_type, union_type};
 pub use labels::is_named;
+pub use memos::Memo;
 pub use nodes::shown;
 pub use sameness::same;
 pub use steps::{Found, Step, is_type};

@@ -1,4 +1,14 @@
+use Rattle.dh_types.proofs.ClosedCodes.{builtin-closed, closed-later}
 use Rattle.dh_infer_ops.proofs.tests.two.Goals as goal
 
 pub operator_step-requires-clause-found : goal.operator_step-requires-clause-found
-operator_step-requires-clause-found c = c.known.ensures _ tt
+operator_step-requires-clause-found c = c.known.ensures.there _ tt
+
+pub operator_step-requires-clause-closed : goal.operator_step-requires-clause-closed
+operator_step-requires-clause-closed c = (
+  closed-later c.constant.new.codes c.constant-2.new.codes c.in_ok-l.l c.in_ok-r.ensures.grows c.in_ok-l.ensures.made.there (builtin-closed _ _ _ c.in_ok-l.ensures.made),
+  (builtin-closed _ _ _ c.in_ok-r.ensures.made, tt),
+)
+
+pub operator_step-requires-clause-found_closed : goal.operator_step-requires-clause-found_closed
+operator_step-requires-clause-found_closed c = c.known.ensures.closed _ tt

@@ -1,5 +1,4 @@
-use Rattle.std.proofs.Common.{ap, sym, ◌∙◌, Some, Option, ◌+◌, option_map}
-use Rattle.dh_syntax.specs.Names.Nameless.{Core}
+use Rattle.std.proofs.Common.{ap, sym, ◌∙◌, Some, ◌+◌, option_map}
 use Rattle.dh_store.specs.Cells.{code_core}
 use Rattle.dh_store.specs.Growth.{count}
 use Rattle.dh_types.specs.Following.{follow}

@@ -3,7 +3,7 @@ use Rattle.dh_syntax.specs.Typing.NamelessTyping.{core_scopes}
 use Rattle.dh_syntax.specs.Typing.TypeRulesUnions.{merged}
 use Rattle.dh_syntax.specs.Typing.TypeViews.{optional_alternatives}
 use Rattle.dh_store.specs.Cells.{code_core}
-use Rattle.dh_types.specs.Following.{facts_of, follow}
+use Rattle.dh_types.specs.Following.{facts_of}
 use Rattle.dh_types.specs.Parts.{fields_of}
 use Rattle.dh_typerows.proofs.HandlerLists.{handled-goes, handled-refused, optional-handled, same-optional}
 use Rattle.dh_typerows.proofs.Commons.{along-follow}

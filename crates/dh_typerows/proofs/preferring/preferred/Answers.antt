@@ -1,40 +1,18 @@
-use Rattle.std.proofs.Common.{ap, sym, ◌∙◌, length, subst as along}
-use Rattle.dh_store.specs.Cells.{AreBelow}
-use Rattle.dh_records.specs.Picks.{AreMerged}
-use Rattle.dh_records.proofs.MergedFields.{pick_at, within_cells}
-use Rattle.dh_typerows.proofs.FoundFields.{below-push}
-use Rattle.dh_typerows.proofs.PickedFields.{paired-push, picked-all, picked-ascend, picked-more}
+use Rattle.dh_store.specs.Cells.{code_core}
+use Rattle.dh_store.specs.Growth.{count}
+use Rattle.dh_typerows.proofs.PickedFields.{ids-there, preferred-forms}
 use Rattle.dh_typerows.proofs.preferring.preferred.Goals as goal
 
-pub picked_label-requires : goal.picked_label-requires
-picked_label-requires c =
-    pick_at c.args.xs.now c.args.ys.now c.args.ls.now c.args.rs.now c.deref-pick-items.result.now c.loop-pick.pick-index _ c.requires.left_paired c.requires.right_paired
-    (along (AreMerged c.args.xs.now c.args.ys.now) (sym c.deref-pick-items.ensures.value) c.in_ok-picks.ensures) c.loop-pick-test.true
+pub returns-clause-rule : goal.returns-clause-rule
+returns-clause-rule c = λ facts.
+    preferred-forms facts (code_core c.args.codes.now) c.args.xs.now c.args.ys.now c.in_ok-labels.labels c.args.kids.now c.args.others.now c.in_ok-left.left c.as_slice.result.now c.in_ok-right.right c.as_slice-2.result.now
+    c.in_ok-labels.types c.in_ok-left.ensures c.as_slice.ensures c.in_ok-right.ensures c.as_slice-2.ensures (c.in_ok-labels.ensures.fields (code_core c.args.codes.now)) c.in_ok-labels.ensures.paired
 
-pub picked_type-requires : goal.picked_type-requires
-picked_type-requires c =
-    within_cells c.args.xs.now c.args.ys.now c.args.ls.now c.args.rs.now _ c.requires.left_paired c.requires.right_paired
-    (pick_at c.args.xs.now c.args.ys.now c.args.ls.now c.args.rs.now c.deref-pick-items.result.now c.loop-pick.pick-index _ c.requires.left_paired c.requires.right_paired
-    (along (AreMerged c.args.xs.now c.args.ys.now) (sym c.deref-pick-items.ensures.value) c.in_ok-picks.ensures) c.loop-pick-test.true)
-
-pub loop-pick-preserved : goal.loop-pick-preserved
-loop-pick-preserved c = record {
-  fields = λ f.
-      picked-more c.args.xs.now c.args.ys.now c.args.ls.now c.args.rs.now c.requires.left_paired c.requires.right_paired c.deref-pick-items.result.now
-      (along (AreMerged c.args.xs.now c.args.ys.now) (sym c.deref-pick-items.ensures.value) c.in_ok-picks.ensures) f c.loop-pick.pick-index _ c.loop-pick.labels c.push.new.self c.loop-pick.types c.push-in-loop-pick.new.self
-      c.in_ok-picked_label.field-0 c.picked_type.result c.loop-pick-test.true c.in_ok-picked_label.ensures (c.picked_type.ensures.core f) c.loop-pick.invariant.paired c.in_ok-push.ensures.ok c.in_ok-push-2.ensures.ok
-      (c.loop-pick.invariant.fields f);
-  paired = paired-push c.loop-pick.labels c.push.new.self c.loop-pick.types c.push-in-loop-pick.new.self c.in_ok-picked_label.field-0 c.picked_type.result c.loop-pick.invariant.paired c.in_ok-push.ensures.ok c.in_ok-push-2.ensures.ok;
-  below = λ n h k. along (AreBelow n) (sym c.in_ok-push-2.ensures.ok) (below-push n c.loop-pick.types c.picked_type.result (c.loop-pick.invariant.below n h k) (c.picked_type.ensures.below n h k));
-}
-
-pub returns-clause-fields : goal.returns-clause-fields
-returns-clause-fields c = λ f.
-    picked-all c.args.xs.now c.args.ys.now c.args.ls.now c.args.rs.now c.requires.left_paired c.requires.right_paired c.deref-pick-items.result.now
-    (along (AreMerged c.args.xs.now c.args.ys.now) (sym c.deref-pick-items.ensures.value) c.in_ok-picks.ensures) c.loop-pick.pick-index c.loop-pick.labels c.loop-pick.types c.loop-pick-test.false c.loop-pick.invariant.fields f
-
-pub returns-clause-ascends : goal.returns-clause-ascends
-returns-clause-ascends c =
-    picked-ascend c.args.xs.now c.args.ys.now c.args.ls.now c.args.rs.now c.requires.left_paired c.requires.right_paired c.deref-pick-items.result.now
-    (along (AreMerged c.args.xs.now c.args.ys.now) (sym c.deref-pick-items.ensures.value) c.in_ok-picks.ensures) c.loop-pick.pick-index c.loop-pick.labels c.loop-pick.types c.loop-pick-test.false c.loop-pick.invariant.fields
-    c.loop-pick.invariant.paired c.requires.left_ascends
+pub returns-clause-there : goal.returns-clause-there
+returns-clause-there c = (
+  c.in_ok-labels.ensures.below (count c.args.codes.now)
+      (ids-there (count c.args.codes.now) c.args.kids.now c.in_ok-left.left c.as_slice.result.now c.in_ok-left.ensures c.as_slice.ensures c.requires.left_there)
+      (ids-there (count c.args.codes.now) c.args.others.now c.in_ok-right.right c.as_slice-2.result.now c.in_ok-right.ensures c.as_slice-2.ensures c.requires.right_there),
+  c.in_ok-labels.ensures.ascends,
+  c.in_ok-labels.ensures.paired,
+)

@@ -1,8 +1,7 @@
-use Rattle.std.proofs.Common.{◌≡◌, ap, sym, ◌∙◌, arith, IfSome, IsTrue, length, subst as along}
+use Rattle.std.proofs.Common.{◌≡◌, ap, sym, ◌∙◌, arith, IfSome, length, subst as along}
 use Rattle.dh_syntax.specs.Expressions.Order.{ascending}
 use Rattle.dh_store.specs.Cells.{code_core, AreBelow}
 use Rattle.dh_store.specs.Growth.{count}
-use Rattle.dh_types.specs.Parts.{fields_of}
 use Rattle.dh_typerows.proofs.FoundFields.{kids-below, projection-forms}
 use Rattle.dh_typerows.proofs.records.projection.Goals as goal
 

@@ -1,4 +1,4 @@
-use Rattle.std.proofs.Common.{ap, sym, ◌∙◌, arith}
+use Rattle.std.proofs.Common.{◌∙◌, arith}
 use Rattle.dh_store.specs.Cells.{code_core}
 use Rattle.dh_typerows.proofs.UniverseLists.{greatest-last, greatest-whole}
 use Rattle.dh_typerows.proofs.universes.greatest_type.Goals as goal

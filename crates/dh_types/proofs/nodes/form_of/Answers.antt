@@ -1,4 +1,4 @@
-use Rattle.std.proofs.Common.{Some, sym, ap, ◌∙◌}
+use Rattle.std.proofs.Common.{sym, ap, ◌∙◌}
 use Rattle.std.specs.Option.{option_copied}
 use Rattle.dh_store.proofs.Coding.{code-Bound, code-Free}
 use Rattle.dh_types.proofs.CodeNodes.{node-shown, absent-nothing}

@@ -1,4 +1,4 @@
-use Rattle.std.proofs.Common.{ap, sym, ◌∙◌, arith}
+use Rattle.std.proofs.Common.{ap}
 use Rattle.dh_store.specs.Cells.{code_core}
 use Rattle.dh_types.proofs.SameCodes.{same-itself, same-bound, other-counts, kid-older}
 use Rattle.dh_types.proofs.sameness.+same.Goals as goal

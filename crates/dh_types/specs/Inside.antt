@@ -1,0 +1,2 @@
+-- Words that only private clauses and proofs use.
+pub mod Changes
