@@ -11,6 +11,7 @@ pub mod GraftedRowsUnions
 pub mod GraftedSpines
 pub mod GraftedTable
 pub mod GraftedViews
+pub mod LaterStages
 pub mod Moved
 pub mod PlacesSet
 pub mod ReadySet

@@ -17,9 +17,11 @@ pub mod NamedRuns
 pub mod NamelessAgain
 pub mod NamelessAnswers
 pub mod NamelessTests
+pub mod NormalSteps
 pub mod PartialCalls
 pub mod PlacesAgain
 pub mod RunCosts
 pub mod RunLimits
 pub mod RunsAlike
 pub mod RunsSteady
+pub mod StepsInside

@@ -12,4 +12,5 @@ pub mod NamelessAnswers
 pub mod Runs
 pub mod SameRuns
 pub mod Shifting
+pub mod StepLaws
 pub mod Substituting

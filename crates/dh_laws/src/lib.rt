@@ -20,6 +20,7 @@ mod nameless_runs;
 mod runs;
 mod same_runs;
 mod shifting;
+mod steps;
 mod substituting;
 
 pub use alpha::{
@@ -50,6 +51,7 @@ pub use shifting::{
     down_undoes_up, free_after_up, not_free_after_up, shift_down_nesting, shift_up_nesting,
     shifts_exchange, up_undoes_down,
 };
+pub use steps::normal_forms_are_reached;
 pub use substituting::{
     not_free_after_subst, shift_up_of_put, shift_up_of_subst, subst_nesting, subst_not_free,
     subst_of_put, subst_of_subst, subst_variable_nesting,
