@@ -1,1 +1,2 @@
 pub mod AnswerExamples
+pub mod LeftOutExamples

@@ -16,4 +16,5 @@ pub mod Numbers
 pub mod Order
 pub mod Rows
 pub mod SameTree
+pub mod SpellableIndices
 pub mod WellFormed

@@ -1,4 +1,5 @@
 pub mod Answer
 pub mod FaultLines
+pub mod LeftOut
 pub mod Statuses
 pub mod Words

@@ -10,6 +10,8 @@ pub enum Verb {
     Encode,
     /// The printed text of the expression that the input is the binary form of.
     Decode,
+    /// The printed normal form of the expression that the input spells.
+    Normalize,
 }
 
 impl Verb {
@@ -18,7 +20,7 @@ impl Verb {
         ensures { result ≡ reads self }
     {
         match self {
-            Verb::Encode | Verb::Decode => true,
+            Verb::Encode | Verb::Decode | Verb::Normalize => true,
         }
     }
 }

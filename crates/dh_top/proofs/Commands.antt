@@ -16,15 +16,17 @@ use Rattle.dh_syntax.specs.Expressions.Numbers.{bytes_eq}
 use Rattle.dh_syntax.specs.Command.Words.{Word, verb_of, is_count, workers_of, operands, options}
 use Rattle.dh_syntax.specs.declared.verbs.Verb.TheVariants as verb
 
-named-none : (w : List ℕ) (a b : Bool) → bytes_eq (codes "encode") w ≡ a → bytes_eq (codes "decode") w ≡ b → (w ≡ codes "encode" → ⊥) → (w ≡ codes "decode" → ⊥)
-    → (if a then Some verb.Encode else if b then Some verb.Decode else None) ≡ None
-named-none w true b e f h k = absurd (h (sym (bytes_eq-true (codes "encode") w e)))
-named-none w false true e f h k = absurd (k (sym (bytes_eq-true (codes "decode") w f)))
-named-none w false false e f h k = refl
+named-none : (w : List ℕ) (a b d : Bool) → bytes_eq (codes "encode") w ≡ a → bytes_eq (codes "decode") w ≡ b → bytes_eq (codes "normalize") w ≡ d
+    → (w ≡ codes "encode" → ⊥) → (w ≡ codes "decode" → ⊥) → (w ≡ codes "normalize" → ⊥)
+    → (if a then Some verb.Encode else if b then Some verb.Decode else if d then Some verb.Normalize else None) ≡ None
+named-none w true b d e f g h k l = absurd (h (sym (bytes_eq-true (codes "encode") w e)))
+named-none w false true d e f g h k l = absurd (k (sym (bytes_eq-true (codes "decode") w f)))
+named-none w false false true e f g h k l = absurd (l (sym (bytes_eq-true (codes "normalize") w g)))
+named-none w false false false e f g h k l = refl
 
 -- a word that names no command
-pub verb_of-none : (w : List ℕ) → (w ≡ codes "encode" → ⊥) → (w ≡ codes "decode" → ⊥) → None ≡ verb_of w
-verb_of-none w h k = sym (named-none w (bytes_eq (codes "encode") w) (bytes_eq (codes "decode") w) refl refl h k)
+pub verb_of-none : (w : List ℕ) → (w ≡ codes "encode" → ⊥) → (w ≡ codes "decode" → ⊥) → (w ≡ codes "normalize" → ⊥) → None ≡ verb_of w
+verb_of-none w h k l = sym (named-none w (bytes_eq (codes "encode") w) (bytes_eq (codes "decode") w) (bytes_eq (codes "normalize") w) refl refl refl h k l)
 
 -- ---- numbers of workers
 

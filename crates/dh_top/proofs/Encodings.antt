@@ -7,15 +7,24 @@ use Rattle.std.specs.declared.alloc.AllocError.{AllocError}
 use Rattle.dh_ports.specs.Counts.{Rose}
 use Rattle.dh_syntax.specs.declared.commands.Command.{Command}
 use Rattle.dh_syntax.specs.declared.faults.DecodeFault.{DecodeFault}
+use Rattle.dh_syntax.specs.declared.faults.NormFault.{NormFault}
+use Rattle.dh_syntax.specs.declared.faults.NormFault.TheVariants as limit
 use Rattle.dh_syntax.specs.declared.faults.ParseFault.{ParseFault}
 use Rattle.dh_syntax.specs.declared.faults.ParseFault.TheVariants as parse
+use Rattle.dh_syntax.specs.declared.statuses.Status.TheVariants as status
 use Rattle.dh_syntax.specs.declared.verbs.Verb.{Verb}
 use Rattle.dh_syntax.specs.declared.verbs.Verb.TheVariants as verb
 use Rattle.dh_syntax.specs.Bytes.BinaryFaults.{DecodesTo}
-use Rattle.dh_syntax.specs.Command.Answer.{Response, Does, encodes, decodes, decodes_none, usage, does, encoded, decoded, misspelt, misused, unread}
+use Rattle.dh_syntax.specs.Command.Answer.{Response, Does, NormalAnswer, encodes, decodes, decodes_none, normalizes, normalizes_none, leaves_out, normal, limited, usage, does, encoded, decoded, answer, fault, line, misspelt, misused, unread}
+use Rattle.dh_syntax.specs.Command.FaultLines.{norm_fault_line}
+use Rattle.dh_syntax.specs.Command.LeftOut.{has_imports}
 use Rattle.dh_syntax.specs.Command.Words.{Word, command_of, reads}
+use Rattle.dh_syntax.specs.Expressions.Nesting.{nesting}
 use Rattle.dh_syntax.specs.Expressions.Tree.{Term}
-use Rattle.dh_syntax.specs.Limits.{most_bytes}
+use Rattle.dh_syntax.specs.Limits.{most_bytes, most_nesting, whole_purse}
+use Rattle.dh_syntax.specs.Normalising.Named.{names}
+use Rattle.dh_syntax.specs.Normalising.Normal.{HasNormalForm, IsLicensed}
+use Rattle.dh_syntax.specs.Text.Printed.{text_of}
 use Rattle.dh_syntax.specs.Text.Spelling.{ParsesTo}
 use Rattle.dh_top.specs.declared.replies.Reply.{Reply}
 use Rattle.dh_top.specs.Replies.{written, Performs}
@@ -38,6 +47,33 @@ pub decodes_too_large : (r : Result Reply AllocError) (bytes : List ℕ) → mos
 decodes_too_large (Ok x) bytes l w = decodes_none refl l w
 decodes_too_large (Err e) bytes l w = tt
 
+-- ---- the reply to an expression that is normalised
+
+pub normalises_any : (r : Result Reply AllocError) (text : List ℕ) (e : Term) → ParsesTo text (Ok e) → false ≡ has_imports e → IfOk r (λ x. NormalAnswer e (written x))
+    → IfOk r (λ x. Does verb.Normalize text (written x))
+normalises_any (Ok x) text e p n w = normalizes e refl p (sym n) w
+normalises_any (Err e) text o p n w = tt
+
+pub leaves_any : (r : Result Reply AllocError) (text : List ℕ) (e : Term) → ParsesTo text (Ok e) → true ≡ has_imports e → IfOk r (λ x. written x ≡ misspelt (parse.Out 0))
+    → IfOk r (λ x. Does verb.Normalize text (written x))
+leaves_any (Ok x) text e p n w = leaves_out e refl p (sym n) w
+leaves_any (Err e) text o p n w = tt
+
+pub normalises_none : (r : Result Reply AllocError) (text : List ℕ) (f : ParseFault) → ParsesTo text (Err f) → IfOk r (λ x. written x ≡ misspelt f)
+    → IfOk r (λ x. Does verb.Normalize text (written x))
+normalises_none (Ok x) text f p w = normalizes_none f refl p w
+normalises_none (Err e) text f p w = tt
+
+pub normal_any : (r : Result Reply AllocError) (e f : Term) → HasNormalForm names e f → nesting f ≤ most_nesting → IfOk r (λ x. written x ≡ answer (line (text_of f)))
+    → IfOk r (λ x. NormalAnswer e (written x))
+normal_any (Ok x) e f h n w = normal f h n w
+normal_any (Err e) d f h n w = tt
+
+pub limited_any : (r : Result Reply AllocError) (e : Term) (l : NormFault) → (l ≡ limit.Memory → ⊥) → IsLicensed names nesting whole_purse e l
+    → IfOk r (λ x. written x ≡ fault (norm_fault_line l) status.Limit) → IfOk r (λ x. NormalAnswer e (written x))
+limited_any (Ok x) e l n h w = limited l n h w
+limited_any (Err e) d l n h w = tt
+
 -- ---- an input of which only a first part was read, since it is too large
 
 -- the length of what was read
@@ -58,6 +94,9 @@ longer : (v : Verb) (n : ℕ) (text : List ℕ) (w : Response) → n ≡ 1048577
 longer v n text w m h (encodes o e p q) = encodes o e (longer_parse n text o m h p) q
 longer v n text w m h (decodes o e s p q) = absurd (let l = read_length n text m h in omega (arith, s, l))
 longer v n text w m h (decodes_none e l q) = decodes_none e (omega (arith, m, h)) q
+longer v n text w m h (normalizes e o p k q) = normalizes e o (longer_parse n text (Ok e) m h p) k q
+longer v n text w m h (normalizes_none f o p q) = normalizes_none f o (longer_parse n text (Err f) m h p) q
+longer v n text w m h (leaves_out e o p k q) = leaves_out e o (longer_parse n text (Ok e) m h p) k q
 
 by_test : (m n : ℕ) (b : Bool) → nat_lt n m ≡ b → (m ≤ n) ⊎ (n ≤ m)
 by_test m n true e = inr (let h = ltb-true n m e in omega arith)
@@ -79,6 +118,7 @@ whole v n text bytes w m e p = elim (cases_le (length text) n) [
 pub all_read : (v : Verb) → reads v ≡ true
 all_read verb.Encode = refl
 all_read verb.Decode = refl
+all_read verb.Normalize = refl
 
 read_by : (b : Bool) (text : List ℕ) (input : Input) → b ≡ true → IsTaken text input → MatchBool b (IsTaken text input) (IsLeft input)
 read_by true text input e t = t

@@ -1,5 +1,7 @@
 pub mod Commands
 pub mod Encodings
+pub mod ImportWalks
+pub mod Normals
 pub mod Reading
 pub mod RunLaws
 pub mod Writing

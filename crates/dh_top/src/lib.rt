@@ -11,7 +11,9 @@
 mod decoding;
 mod delivery;
 mod encoding;
+mod imports;
 mod inputs;
+mod normalizing;
 mod replies;
 mod runs;
 mod words;
@@ -22,5 +24,7 @@ pub use words::read_words;
 
 #[cfg(test)]
 mod grammar_tests;
+#[cfg(test)]
+mod normal_tests;
 #[cfg(test)]
 mod tests;

@@ -16,6 +16,8 @@ fn verb_named(word: &str) -> Option<Verb>
         Some(Verb::Encode)
     } else if word == "decode" {
         Some(Verb::Decode)
+    } else if word == "normalize" {
+        Some(Verb::Normalize)
     } else {
         None
     }

@@ -22,6 +22,9 @@ encode_alone = refl
 decode_with_workers : command_of (codes "decode" ∷ codes "--workers" ∷ codes "64" ∷ []) ≡ Ok (record { verb = verb.Decode; workers = 64 })
 decode_with_workers = refl
 
+normalize_alone : command_of (codes "normalize" ∷ []) ≡ Ok (record { verb = verb.Normalize; workers = 4 })
+normalize_alone = refl
+
 encode_and_more : command_of (codes "encode" ∷ codes "x" ∷ []) ≡ Err 2
 encode_and_more = refl
 

@@ -1,7 +1,9 @@
 -- What the command writes and how it ends, for every list of words and every input.
-use Rattle.std.specs.Prelude.{◌≡◌, ◌≤◌, ◌<◌, ℕ, List, [], ◌∷◌, ◌++◌, length, Result, Ok, Err}
+use Rattle.std.specs.Prelude.{◌≡◌, ◌≤◌, ◌<◌, ℕ, false, IsTrue, List, [], ◌∷◌, ◌++◌, length, Result, Ok, Err}
 use Rattle.dh_syntax.specs.declared.commands.Command.{Command}
 use Rattle.dh_syntax.specs.declared.faults.DecodeFault.{DecodeFault}
+use Rattle.dh_syntax.specs.declared.faults.NormFault.{NormFault}
+use Rattle.dh_syntax.specs.declared.faults.NormFault.TheVariants as limit
 use Rattle.dh_syntax.specs.declared.faults.ParseFault.{ParseFault}
 use Rattle.dh_syntax.specs.declared.faults.ParseFault.TheVariants as parse
 use Rattle.dh_syntax.specs.declared.statuses.Status.{Status}
@@ -10,10 +12,15 @@ use Rattle.dh_syntax.specs.declared.verbs.Verb.{Verb}
 use Rattle.dh_syntax.specs.declared.verbs.Verb.TheVariants as verb
 use Rattle.dh_syntax.specs.Bytes.Binary.{enc}
 use Rattle.dh_syntax.specs.Bytes.BinaryFaults.{DecodesTo}
-use Rattle.dh_syntax.specs.Command.FaultLines.{parse_fault_line, decode_fault_line, usage_line, read_line, memory_line}
+use Rattle.dh_syntax.specs.Command.FaultLines.{parse_fault_line, decode_fault_line, norm_fault_line, usage_line, read_line, memory_line}
+use Rattle.dh_syntax.specs.Command.LeftOut.{has_imports}
 use Rattle.dh_syntax.specs.Command.Words.{Word, command_of}
+use Rattle.dh_syntax.specs.Expressions.Nesting.{nesting}
 use Rattle.dh_syntax.specs.Expressions.Tree.{Term}
-use Rattle.dh_syntax.specs.Limits.{most_bytes}
+use Rattle.dh_syntax.specs.Limits.{most_bytes, most_nesting, whole_purse}
+use Rattle.dh_syntax.specs.Normalising.Heads.{Found}
+use Rattle.dh_syntax.specs.Normalising.Named.{names}
+use Rattle.dh_syntax.specs.Normalising.Normal.{HasNormalForm, Normalises, IsLicensed, IsDeepLicensed}
 use Rattle.dh_syntax.specs.Text.Printed.{text_of}
 use Rattle.dh_syntax.specs.Text.Spelling.{ParsesTo}
 
@@ -63,12 +70,22 @@ abbrev pub decoded : Result Term DecodeFault → Response
 decoded (Ok e) = answer (line (text_of e))
 decoded (Err f) = fault (decode_fault_line f) status.Text
 
+-- What `normalize` writes of an expression that needs nothing outside of it: the printed text of its normal form, or a limit that
+-- is licensed for it.
+pub data NormalAnswer (e : Term) (w : Response) : Type 0 where
+  normal : (f : Term) → HasNormalForm names e f → nesting f ≤ most_nesting → w ≡ answer (line (text_of f)) → NormalAnswer e w
+  limited : (l : NormFault) → ¬ (l ≡ limit.Memory) → IsLicensed names nesting whole_purse e l → w ≡ fault (norm_fault_line l) status.Limit → NormalAnswer e w
+
 -- what a command writes of its input
 pub data Does (v : Verb) (input : List ℕ) (w : Response) : Type 0 where
   encodes : (r : Result Term ParseFault) → v ≡ verb.Encode → ParsesTo input r → w ≡ encoded r → Does v input w
   decodes : (r : Result Term DecodeFault) → v ≡ verb.Decode → length input ≤ most_bytes → DecodesTo input r → w ≡ decoded r → Does v input w
   -- more bytes than a text may have are no binary form either
   decodes_none : v ≡ verb.Decode → most_bytes < length input → w ≡ misspelt parse.TooLarge → Does v input w
+  normalizes : (e : Term) → v ≡ verb.Normalize → ParsesTo input (Ok e) → has_imports e ≡ false → NormalAnswer e w → Does v input w
+  normalizes_none : (f : ParseFault) → v ≡ verb.Normalize → ParsesTo input (Err f) → w ≡ misspelt f → Does v input w
+  -- an expression that needs what stands outside of it is left out
+  leaves_out : (e : Term) → v ≡ verb.Normalize → ParsesTo input (Ok e) → IsTrue (has_imports e) → w ≡ misspelt (parse.Out 0) → Does v input w
 
 -- the answer to these words and this input
 pub data CommandAnswer (words : List Word) (input : List ℕ) (w : Response) : Type 0 where
@@ -79,3 +96,5 @@ pub data CommandAnswer (words : List Word) (input : List ℕ) (w : Response) : T
 abbrev pub Succeeds : Verb → List ℕ → Type 0
 Succeeds verb.Encode input = (e : Term) × ParsesTo input (Ok e)
 Succeeds verb.Decode input = (e : Term) × (length input ≤ most_bytes) × DecodesTo input (Ok e)
+Succeeds verb.Normalize input =
+    (e : Term) × (f : Term) × (left : ℕ) × ParsesTo input (Ok e) × (has_imports e ≡ false) × Normalises names whole_purse e (Found f left) × ¬ IsDeepLicensed names nesting e

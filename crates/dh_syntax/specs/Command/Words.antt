@@ -17,16 +17,18 @@ Word = List ℕ
 -- ---- the commands
 
 abbrev pub verbs : List Verb
-verbs = verb.Encode ∷ verb.Decode ∷ []
+verbs = verb.Encode ∷ verb.Decode ∷ verb.Normalize ∷ []
 
 abbrev pub verb_name : Verb → Word
 verb_name verb.Encode = codes "encode"
 verb_name verb.Decode = codes "decode"
+verb_name verb.Normalize = codes "normalize"
 
 -- which commands read their input
 abbrev pub reads : Verb → Bool
 reads verb.Encode = true
 reads verb.Decode = true
+reads verb.Normalize = true
 
 -- the command that a word names
 abbrev pub verb_of : Word → Option Verb
