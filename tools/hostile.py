@@ -1,10 +1,11 @@
 #!/usr/bin/env python3
 """Runs the built `dhall` on hostile inputs, devices and command lines, and compares each run with a reference.
 
-The reference is expressions.py beside it, which makes expressions with texts that spell them and with what they are
-written as, and two tables, of texts and of bytes, whose answers were worked out by hand; nothing of it comes from the
-program. Of a spoilt text or of spoilt bytes it asks for one fault in the input, or for an answer that survives the way
-back. Usage: tools/hostile.py [PROGRAM] [--seed N] [--rounds N]. PROGRAM is crates/dhall/out/dhall where it is left out
+The reference is expressions.py and programs.py beside it, which make expressions with texts that spell them and with
+what they are written as, and programs with their values, and two tables, of texts and of bytes, whose answers were
+worked out by hand; nothing of it comes from the program. Of a spoilt text or of spoilt bytes it asks for one fault in
+the input, or for an answer that survives the way back; of a random expression's normal form, that it is its own.
+Usage: tools/hostile.py [PROGRAM] [--seed N] [--rounds N]. PROGRAM is crates/dhall/out/dhall where it is left out
 (`make build` makes it). It prints a summary, and exits with 1 if a run did anything else than what is stated.
 """
 
@@ -20,11 +21,12 @@ import threading
 import time
 
 import expressions
+import programs
 
 MOST_BYTES = 1_048_576
 SECONDS = 10
 
-OK, TEXT, USAGE, READ, WRITE, MEMORY = 0, 1, 5, 6, 7, 9
+OK, TEXT, LIMIT, USAGE, READ, WRITE, MEMORY = 0, 1, 4, 5, 6, 7, 9
 READ_LINE = b"read failed\n"
 WRITE_LINE = b"write failed\n"
 MEMORY_LINE = b"out of memory\n"
@@ -214,6 +216,48 @@ def random_texts(findings, source, rounds):
             check_text(findings, "changed texts", f"changed {bad!r}", bad)
         k = source.randrange(len(text))
         check_text(findings, "cut texts", f"cut to {k} {text[:60]!r}", text[:k])
+
+
+# Normal forms.
+
+LEFT_OUT = refused(b"left out of this profile at 0")
+LIMIT_FAULT = re.compile(rb"(?:number or literal too wide|budget of 16777216 spent|too deep)\n")
+
+
+def has_imports(e):
+    """Whether an import or a choice between imports stands somewhere in it."""
+    if isinstance(e, (tuple, list)):
+        return e[:1] == ("import",) or e[:2] == ("bin", "?") or any(map(has_imports, e))
+    return False
+
+
+def normalize(findings, group, name, text, *wanted):
+    ran = run(findings, group, name, ["normalize"], input=text)
+    expect(findings, name, ran, *wanted)
+    return ran
+
+
+def random_normals(findings, source, rounds):
+    """Closed programs, whose values are known; and random expressions, whose normal forms are their own normal forms."""
+    maker = programs.Maker(source)
+    for n in range(rounds):
+        e, t, value = maker.program(source.randrange(1, 7))
+        text = expressions.spelled(source, e).encode()
+        if len(text) <= MOST_BYTES:
+            line = expressions.printed(programs.literal(t, value)).encode() + b"\n"
+            normalize(findings, "programs", f"program {n} {text[:60]!r}", text, written(line))
+    maker = expressions.Maker(source)
+    for n in range(rounds):
+        e = maker.expression(source.randrange(1, 6))
+        name, text = f"expression {n}", expressions.printed(e).encode()
+        if has_imports(e):
+            normalize(findings, "left out", name, text, LEFT_OUT)
+            continue
+        ran = run(findings, "normal forms", name, ["normalize"], input=text)
+        if ran is None or (ran[0] == LIMIT and not ran[1] and LIMIT_FAULT.fullmatch(ran[2])):
+            continue
+        expect(findings, name, ran, (OK, ran[1], b""))
+        normalize(findings, "normal forms, again", name, ran[1], written(ran[1]), refused(b"nested deeper than 500"))
 
 
 OPENINGS = ["(", "[", "{ a = ", "< A : ", "\"${", "''${", "if ", "if x then ", "if x then y else ", "let x = ", "let x : ",
@@ -540,6 +584,7 @@ def main():
     worked_texts(findings)
     short_texts(findings)
     random_texts(findings, random.Random(options.seed), options.rounds)
+    random_normals(findings, random.Random(options.seed), options.rounds)
     worked_bytes(findings)
     random_bytes(findings, random.Random(options.seed), options.rounds)
     for check in (deep_texts, long_texts, large_texts, large_bytes, devices, broken_pipes, slow_pipes, command_lines, little_memory):
