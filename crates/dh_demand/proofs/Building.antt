@@ -99,7 +99,7 @@ pub other_built : (parent : Option Loc) (rows : List Row) (e : Expr) (op op' : O
     → AreBuilt (row_of ks) (in_order (walks (text_key parent) (ask_of rows) (row_of ks))) js → IsBuilt (walk (text_key parent) (ask_of rows) (term e)) v
 other_built parent rows e op op' ks js v is h q made b = parts_built parent rows e op op' ks js v other is (others (form_of op) h) refl q made b
 
-not_two : (parent : Option Loc) (rows : List Row) (op : Op) (ks : List Kid) → (length ks ≡ 2 → ⊥)
+pub not_two : (parent : Option Loc) (rows : List Row) (op : Op) (ks : List Kid) → (length ks ≡ 2 → ⊥)
     → walk_node (text_key parent) (ask_of rows) op (row_of ks) choosing (walks (text_key parent) (ask_of rows) (row_of ks))
     ≡ and_then (in_order (walks (text_key parent) (ask_of rows) (row_of ks))) (λ es. Ready (Node op (replace_row (row_of ks) es)))
 unfolding row_of
@@ -189,7 +189,7 @@ pub record BuiltSoFar (parent : Option Loc) (rows : List Row) (ks : List Kid) (i
   pub whole : and_then so_far (λ vs. and_then (in_order (walks (text_key parent) (ask_of rows) (row_of (drop i ks)))) (λ es. Ready (vs ++ es))) ≡ in_order (walks (text_key parent) (ask_of rows) (row_of ks))
   pub kept : KeptOrLost ks i so_far done failed
 
-same-walk : (w : Walked (List Term)) → and_then w (λ es. Ready ([] ++ es)) ≡ w
+pub same-walk : (w : Walked (List Term)) → and_then w (λ es. Ready ([] ++ es)) ≡ w
 same-walk (Ready vs) = refl
 same-walk (Fails b) = refl
 same-walk (Turns j) = refl
@@ -203,7 +203,7 @@ built-start parent rows ks done es h b = record {
   kept = λ es. subst (λ d. row_of d +++ replace_row (row_of ks) es ≡ replace_row (row_of ks) es) (sym h) (ap (λ r. r +++ replace_row (row_of ks) es) row_of-nil);
 }
 
-more_whole : (w : Walked (List Term)) (v : Walked Term) (ws : Walked (List Term))
+pub more_whole : (w : Walked (List Term)) (v : Walked Term) (ws : Walked (List Term))
     → and_then (and_then w (λ vs. and_then v (λ e. Ready (vs ++ e ∷ [])))) (λ vs. and_then ws (λ es. Ready (vs ++ es))) ≡ and_then w (λ vs. and_then (and_then v (λ e. and_then ws (λ es. Ready (e ∷ es)))) (λ es. Ready (vs ++ es)))
 more_whole (Ready vs) (Ready e) (Ready es) = ap (λ (x : List Term). Ready x) (append_assoc {A = Term} vs (e ∷ []) es)
 more_whole (Ready vs) (Ready e) (Fails b) = refl
@@ -288,7 +288,7 @@ built-lost parent rows ks done done' failed failed' i k es rest h e p q lost r s
           (lost_more s.so_far v (subst (λ b. KeptOrLost ks i s.so_far done b) lost s.kept));
     }
 
-no_more : (w : Walked (List Term)) → and_then w (λ vs. Ready (vs ++ [])) ≡ w
+pub no_more : (w : Walked (List Term)) → and_then w (λ vs. Ready (vs ++ [])) ≡ w
 no_more (Ready vs) = ap (λ (x : List Term). Ready x) (append-nil {A = Term} vs)
 no_more (Fails b) = refl
 no_more (Turns j) = refl

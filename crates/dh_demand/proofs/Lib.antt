@@ -1,4 +1,5 @@
 pub mod Building
+pub mod Compared
 pub mod Edges
 pub mod ImportKeys
 pub mod Nexting

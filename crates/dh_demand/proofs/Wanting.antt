@@ -1,5 +1,5 @@
 -- The wants of walks, one after the other.
-use Rattle.std.specs.Prelude.{◌≡◌, ◌⊎◌, ◌<◌, ◌≤◌, ℕ, zero, suc, ◌+◌, ◌++◌, Bool, true, false, if◌then◌else◌, List, [], ◌∷◌, length, drop, slice_set, Option, Some, None, is_none, refl}
+use Rattle.std.specs.Prelude.{◌≡◌, ◌⊎◌, ◌<◌, ◌≤◌, ℕ, zero, suc, ◌+◌, ◌++◌, ◌&&◌, ◌||◌, Bool, true, false, if◌then◌else◌, List, [], ◌∷◌, length, drop, slice_set, Option, Some, None, is_none, refl}
 use Rattle.std.proofs.Common.{ap, sym, ◌∙◌, subst, inl, inr, get_or, append_assoc, append-nil, set}
 use Rattle.std.proofs.Math.ListN.{length-set}
 use Rattle.std.proofs.lemmas.List.{get_or-set_same}
@@ -15,7 +15,7 @@ use Rattle.dh_syntax.specs.declared.outcomes.Why.TheVariants as whys
 use Rattle.dh_syntax.specs.Expressions.Bridge.{term, row_of}
 use Rattle.dh_syntax.specs.Expressions.Tree.{Leaf, Name, Term}
 use Rattle.dh_syntax.specs.Imports.Outcomes.{Outcome, Good, Bad, Loop, may_go_on}
-use Rattle.dh_syntax.specs.Imports.Walk.{choosing, form_of, Walked, Ready, Fails, Turns, Needs, allowed, by_outcome, is_sane, walk_key, Ending, Goes, Stops, Circles, Course, after, then_by, else_by, all_courses, ending_by, course_key, course_node, course, courses, undecided, keys_of, keys_of_row}
+use Rattle.dh_syntax.specs.Imports.Walk.{Ask, choosing, form_of, Walked, Ready, Fails, Turns, Needs, allowed, by_outcome, is_sane, walk_key, Ending, Goes, Stops, Circles, Course, after, then_by, else_by, all_courses, ending_by, course_key, course_node, course, courses, keys_of, keys_of_row}
 use Rattle.dh_syntax.proofs.Bridge.{at_term-Var, at_term-Node}
 use Rattle.dh_syntax.proofs.Rows.{row_of-drop_item, row_of-drop_all}
 use Rattle.dh_demand.specs.declared.scans.Edge.{Edge}
@@ -23,13 +23,14 @@ use Rattle.dh_demand.specs.declared.ends.Next.{Next}
 use Rattle.dh_demand.specs.declared.ends.Next.TheVariants as next
 use Rattle.dh_demand.specs.declared.parts.Part.TheVariants as part
 use Rattle.dh_demand.specs.Results.{Row, number_of, ask_of}
-use Rattle.dh_demand.specs.Scans.{text_key, Begins, imports}
+use Rattle.dh_demand.specs.Scans.{text_key, Begins, IsEdge, imports}
 use Rattle.dh_demand.specs.Nexts.{IsNext}
 use Rattle.dh_demand.specs.Wants.{HasNumber, AreMarked}
 use Rattle.dh_demand.specs.Inside.Going.{goes_on}
-use Rattle.dh_demand.specs.Inside.Marking.{mark, marked, IsEnd, Wanting, nothing_asked, choice_course}
+use Rattle.dh_demand.specs.Inside.Marking.{mark, marked, picked, IsEnd, Wanting, nothing_asked, choice_course}
 use Rattle.dh_demand.specs.Inside.Parts.{part_of}
 use Rattle.dh_demand.proofs.Edges.{begins_at_item, begins_after_item}
+use Rattle.dh_demand.proofs.Visiting.{sane_is}
 use Rattle.dh_demand.proofs.Nexting.{chosen, others, import_node, two_kids}
 
 -- ---- marks
@@ -97,6 +98,13 @@ pub are_marked : (rows : List Row) (ks : List Key) (old new : List Bool) → new
 are_marked rows ks old new e =
     subst (AreMarked rows ks old) (sym e) (record { same_length = marked_length rows ks old; set = λ n h k. marked_set rows ks old n h k; kept = λ n h. marked_kept rows ks old n h; only = λ n h. marked_only rows ks old n h })
 
+all_picked : (ask : Ask) (ks : List Key) → picked true ask ks ≡ ks
+all_picked ask [] = refl
+all_picked ask (k ∷ ks) = ap (λ js. k ∷ js) (all_picked ask ks)
+
+pub are_asked : (rows : List Row) (ks : List Key) (old new : List Bool) → new ≡ marked rows (picked true (ask_of rows) ks) old → AreMarked rows ks old new
+are_asked rows ks old new e = are_marked rows ks old new (e ∙ ap (λ js. marked rows js old) (all_picked (ask_of rows) ks))
+
 -- ---- courses, one after the other
 
 pub goes_after : (parent : Option Loc) (rows : List Row) (t : Ending) (c d : Course) (n : Next) → IsEnd parent rows t n → n ≡ next.Ready → then_by t c d ≡ after c d
@@ -112,45 +120,45 @@ stays_after parent rows (Stops b) c d n h no_more = refl
 stays_after parent rows Circles c d n h no_more = refl
 
 -- a walk that ended wants no more
-pub want_stays : (parent : Option Loc) (rows : List Row) (c d : Course) (first marks : List Bool) (n : Next) → Wanting parent rows c first n marks → (n ≡ next.Ready → ⊥)
-    → Wanting parent rows (then_by c.ending c d) first n marks
-want_stays parent rows c d first marks n w no_more = subst (λ x. Wanting parent rows x first n marks) (sym (stays_after parent rows c.ending c d n w.end no_more)) w
+pub want_stays : (all : Bool) (parent : Option Loc) (rows : List Row) (c d : Course) (first marks : List Bool) (n : Next) → Wanting all parent rows c first n marks → (n ≡ next.Ready → ⊥)
+    → Wanting all parent rows (then_by c.ending c d) first n marks
+want_stays all parent rows c d first marks n w no_more = subst (λ x. Wanting all parent rows x first n marks) (sym (stays_after parent rows c.ending c d n w.end no_more)) w
 
-want_after : (parent : Option Loc) (rows : List Row) (c d : Course) (first middle marks : List Bool) (n : Next) → middle ≡ marked rows (undecided (ask_of rows) c.asked) first
-    → Wanting parent rows d middle n marks → Wanting parent rows (after c d) first n marks
-want_after parent rows c d first middle marks n p w = record {
+want_after : (all : Bool) (parent : Option Loc) (rows : List Row) (c d : Course) (first middle marks : List Bool) (n : Next) → middle ≡ marked rows (picked all (ask_of rows) c.asked) first
+    → Wanting all parent rows d middle n marks → Wanting all parent rows (after c d) first n marks
+want_after all parent rows c d first middle marks n p w = record {
   end = w.end;
   marks_are =
-      w.marks_are ∙ ap (marked rows (undecided (ask_of rows) d.asked)) p
-      ∙ sym (marked-append rows (undecided (ask_of rows) c.asked) (undecided (ask_of rows) d.asked) first)
-      ∙ ap (λ ks. marked rows ks first) (sym (filter-append (λ k. is_none (ask_of rows k)) c.asked d.asked));
+      w.marks_are ∙ ap (marked rows (picked all (ask_of rows) d.asked)) p
+      ∙ sym (marked-append rows (picked all (ask_of rows) c.asked) (picked all (ask_of rows) d.asked) first)
+      ∙ ap (λ ks. marked rows ks first) (sym (filter-append (λ k. all || is_none (ask_of rows k)) c.asked d.asked));
 }
 
-pub want_goes : (parent : Option Loc) (rows : List Row) (c d : Course) (first middle marks : List Bool) (before n : Next) → Wanting parent rows c first before middle → before ≡ next.Ready
-    → Wanting parent rows d middle n marks → Wanting parent rows (then_by c.ending c d) first n marks
-want_goes parent rows c d first middle marks before n w is v =
-    subst (λ x. Wanting parent rows x first n marks) (sym (goes_after parent rows c.ending c d before w.end is)) (want_after parent rows c d first middle marks n w.marks_are v)
+pub want_goes : (all : Bool) (parent : Option Loc) (rows : List Row) (c d : Course) (first middle marks : List Bool) (before n : Next) → Wanting all parent rows c first before middle → before ≡ next.Ready
+    → Wanting all parent rows d middle n marks → Wanting all parent rows (then_by c.ending c d) first n marks
+want_goes all parent rows c d first middle marks before n w is v =
+    subst (λ x. Wanting all parent rows x first n marks) (sym (goes_after parent rows c.ending c d before w.end is)) (want_after all parent rows c d first middle marks n w.marks_are v)
 
 -- at the start nothing is asked
-pub want_start : (parent : Option Loc) (rows : List Row) (marks : List Bool) → Wanting parent rows nothing_asked marks next.Ready marks
-want_start parent rows marks = record { end = tt; marks_are = refl }
+pub want_start : (all : Bool) (parent : Option Loc) (rows : List Row) (marks : List Bool) → Wanting all parent rows nothing_asked marks next.Ready marks
+want_start all parent rows marks = record { end = tt; marks_are = refl }
 
-pub want_first : (parent : Option Loc) (rows : List Row) (d : Course) (first marks : List Bool) (n : Next) → Wanting parent rows (then_by Goes nothing_asked d) first n marks → Wanting parent rows d first n marks
-want_first parent rows d first marks n w = record { end = w.end; marks_are = w.marks_are }
+pub want_first : (all : Bool) (parent : Option Loc) (rows : List Row) (d : Course) (first marks : List Bool) (n : Next) → Wanting all parent rows (then_by Goes nothing_asked d) first n marks → Wanting all parent rows d first n marks
+want_first all parent rows d first marks n w = record { end = w.end; marks_are = w.marks_are }
 
 -- ---- nodes
 
-pub want_variable : (parent : Option Loc) (rows : List Row) (e : Expr) (x : Name) (i : ℕ) (marks : List Bool) → e ≡ expr.Var x i
-    → Wanting parent rows (course (text_key parent) (ask_of rows) (term e)) marks next.Ready marks
-want_variable parent rows e x i marks h =
-    subst (λ c. Wanting parent rows c marks next.Ready marks) (sym (at_term-Var (course (text_key parent) (ask_of rows)) e x i h)) (record { end = tt; marks_are = refl })
+pub want_variable : (all : Bool) (parent : Option Loc) (rows : List Row) (e : Expr) (x : Name) (i : ℕ) (marks : List Bool) → e ≡ expr.Var x i
+    → Wanting all parent rows (course (text_key parent) (ask_of rows) (term e)) marks next.Ready marks
+want_variable all parent rows e x i marks h =
+    subst (λ c. Wanting all parent rows c marks next.Ready marks) (sym (at_term-Var (course (text_key parent) (ask_of rows)) e x i h)) (record { end = tt; marks_are = refl })
 
-pub want_node : (parent : Option Loc) (rows : List Row) (e : Expr) (op : Op) (ks : List Kid) (n : Next) (es : List Edge) (first marks : List Bool) → e ≡ expr.Node op ks → part.Import ≡ part_of op
-    → ((k : Key) (ls : List Key) → Begins parent rows (k ∷ ls) es → Wanting parent rows (course_key (text_key parent) (ask_of rows) k) first n marks)
-    → Begins parent rows (keys_of parent (term e)) es → Wanting parent rows (course (text_key parent) (ask_of rows) (term e)) first n marks
-want_node parent rows e op ks n es first marks is h step b =
+pub want_node : (all : Bool) (parent : Option Loc) (rows : List Row) (e : Expr) (op : Op) (ks : List Kid) (n : Next) (es : List Edge) (first marks : List Bool) → e ≡ expr.Node op ks → part.Import ≡ part_of op
+    → ((k : Key) (ls : List Key) → Begins parent rows (k ∷ ls) es → Wanting all parent rows (course_key (text_key parent) (ask_of rows) k) first n marks)
+    → Begins parent rows (keys_of parent (term e)) es → Wanting all parent rows (course (text_key parent) (ask_of rows) (term e)) first n marks
+want_node all parent rows e op ks n es first marks is h step b =
     let i = import_node parent rows e op ks is h in
-    subst (λ c. Wanting parent rows c first n marks) (sym i.course_is) (step i.key (keys_of_row parent (row_of ks)) (subst (λ ls. Begins parent rows ls es) i.keys_are b))
+    subst (λ c. Wanting all parent rows c first n marks) (sym i.course_is) (step i.key (keys_of_row parent (row_of ks)) (subst (λ ls. Begins parent rows ls es) i.keys_are b))
 
 pub other_course : (parent : Option Loc) (rows : List Row) (e : Expr) (op : Op) (ks : List Kid) → e ≡ expr.Node op ks → part.Other ≡ part_of op
     → course (text_key parent) (ask_of rows) (term e) ≡ all_courses (courses (text_key parent) (ask_of rows) (row_of ks))
@@ -179,8 +187,8 @@ no_choice_course parent rows (a ∷ []) h = refl
 no_choice_course parent rows (a ∷ b ∷ []) h = absurd (h refl)
 no_choice_course parent rows (a ∷ b ∷ d ∷ ks) h = refl
 
-pub as_course : (parent : Option Loc) (rows : List Row) (c d : Course) (first marks : List Bool) (n : Next) → c ≡ d → Wanting parent rows d first n marks → Wanting parent rows c first n marks
-as_course parent rows c d first marks n p w = subst (λ x. Wanting parent rows x first n marks) (sym p) w
+pub as_course : (all : Bool) (parent : Option Loc) (rows : List Row) (c d : Course) (first marks : List Bool) (n : Next) → c ≡ d → Wanting all parent rows d first n marks → Wanting all parent rows c first n marks
+as_course all parent rows c d first marks n p w = subst (λ x. Wanting all parent rows x first n marks) (sym p) w
 
 -- ---- the two sides of a choice
 
@@ -223,26 +231,26 @@ two_courses : (parent : Option Loc) (rows : List Row) (ks : List Kid) (k j : Kid
 two_courses parent rows ks k j h p q = ap (λ r. choice_course (courses (text_key parent) (ask_of rows) r)) (two_kids ks k j h p q)
 
 -- what the left side asked, where the right side goes on after it
-pub passed : (parent : Option Loc) (rows : List Row) (c : Course) (first marks : List Bool) (n : Next) → Wanting parent rows c first n marks
-    → Wanting parent rows (record { asked = c.asked; ending = Goes }) first next.Ready marks
-passed parent rows c first marks n w = record { end = tt; marks_are = w.marks_are }
+pub passed : (all : Bool) (parent : Option Loc) (rows : List Row) (c : Course) (first marks : List Bool) (n : Next) → Wanting all parent rows c first n marks
+    → Wanting all parent rows (record { asked = c.asked; ending = Goes }) first next.Ready marks
+passed all parent rows c first marks n w = record { end = tt; marks_are = w.marks_are }
 
-pub want_right : (parent : Option Loc) (rows : List Row) (ks : List Kid) (k j : Kid) (first marks : List Bool) (n : Next) → length ks ≡ 2 → k ≡ get_or ks 0 k → j ≡ get_or ks 1 j
+pub want_right : (all : Bool) (parent : Option Loc) (rows : List Row) (ks : List Kid) (k j : Kid) (first marks : List Bool) (n : Next) → length ks ≡ 2 → k ≡ get_or ks 0 k → j ≡ get_or ks 1 j
     → going (course (text_key parent) (ask_of rows) (term k.body)).ending ≡ true
-    → Wanting parent rows (then_by Goes (record { asked = (course (text_key parent) (ask_of rows) (term k.body)).asked; ending = Goes }) (course (text_key parent) (ask_of rows) (term j.body))) first n marks
-    → Wanting parent rows (choice_course (courses (text_key parent) (ask_of rows) (row_of ks))) first n marks
-want_right parent rows ks k j first marks n h p q g w =
+    → Wanting all parent rows (then_by Goes (record { asked = (course (text_key parent) (ask_of rows) (term k.body)).asked; ending = Goes }) (course (text_key parent) (ask_of rows) (term j.body))) first n marks
+    → Wanting all parent rows (choice_course (courses (text_key parent) (ask_of rows) (row_of ks))) first n marks
+want_right all parent rows ks k j first marks n h p q g w =
     let c = course (text_key parent) (ask_of rows) (term k.body) in
     let d = course (text_key parent) (ask_of rows) (term j.body) in
-    as_course parent rows _ (after c d) first marks n (two_courses parent rows ks k j h p q ∙ goes_to_right c.ending c d g) (record { end = w.end; marks_are = w.marks_are })
+    as_course all parent rows _ (after c d) first marks n (two_courses parent rows ks k j h p q ∙ goes_to_right c.ending c d g) (record { end = w.end; marks_are = w.marks_are })
 
-pub want_left : (parent : Option Loc) (rows : List Row) (ks : List Kid) (k j : Kid) (first marks : List Bool) (n : Next) → length ks ≡ 2 → k ≡ get_or ks 0 k → j ≡ get_or ks 1 j
-    → going (course (text_key parent) (ask_of rows) (term k.body)).ending ≡ false → Wanting parent rows (course (text_key parent) (ask_of rows) (term k.body)) first n marks
-    → Wanting parent rows (choice_course (courses (text_key parent) (ask_of rows) (row_of ks))) first n marks
-want_left parent rows ks k j first marks n h p q g w =
+pub want_left : (all : Bool) (parent : Option Loc) (rows : List Row) (ks : List Kid) (k j : Kid) (first marks : List Bool) (n : Next) → length ks ≡ 2 → k ≡ get_or ks 0 k → j ≡ get_or ks 1 j
+    → going (course (text_key parent) (ask_of rows) (term k.body)).ending ≡ false → Wanting all parent rows (course (text_key parent) (ask_of rows) (term k.body)) first n marks
+    → Wanting all parent rows (choice_course (courses (text_key parent) (ask_of rows) (row_of ks))) first n marks
+want_left all parent rows ks k j first marks n h p q g w =
     let c = course (text_key parent) (ask_of rows) (term k.body) in
     let d = course (text_key parent) (ask_of rows) (term j.body) in
-    as_course parent rows _ c first marks n (two_courses parent rows ks k j h p q ∙ stays_at_left c.ending c d g) w
+    as_course all parent rows _ c first marks n (two_courses parent rows ks k j h p q ∙ stays_at_left c.ending c d g) w
 
 -- ---- one import
 
@@ -252,62 +260,79 @@ passing (next.Need m) = next.Ready
 passing next.Ready = next.Ready
 passing (next.Fault e) = next.Fault e
 
-abbrev pub noting : Edge → Next → List Bool → List Bool
-noting e (next.Need m) marks = slice_set marks e.key true
-noting e next.Ready marks = marks
-noting e (next.Fault f) marks = marks
+abbrev pub noting : Bool → Edge → Next → List Bool → List Bool
+noting all e (next.Need m) marks = slice_set marks e.key true
+noting all e next.Ready marks = if all then slice_set marks e.key true else marks
+noting all e (next.Fault f) marks = if all && e.sane then slice_set marks e.key true else marks
 
-undecided-none : (rows : List Row) (k : Key) → ask_of rows k ≡ None → undecided (ask_of rows) (k ∷ []) ≡ k ∷ []
-undecided-none rows k h = rw h refl
+-- what is marked of a key that is asked, by whether it has an outcome
+noted_none : (all : Bool) (rows : List Row) (k : Key) (e : Edge) (marks : List Bool) → number_of rows k ≡ Some e.key → ask_of rows k ≡ None
+    → slice_set marks e.key true ≡ marked rows (picked all (ask_of rows) (k ∷ [])) marks
+noted_none true rows k e marks i h = ap (λ x. mark x marks) (sym i)
+noted_none false rows k e marks i h = ap (λ x. mark x marks) (sym i) ∙ sym (ap (λ o. marked rows (if is_none o then k ∷ [] else []) marks) h)
 
-undecided-some : (rows : List Row) (k : Key) (o : Outcome) → ask_of rows k ≡ Some o → undecided (ask_of rows) (k ∷ []) ≡ []
-undecided-some rows k o h = rw h refl
+noted_some : (all : Bool) (rows : List Row) (k : Key) (e : Edge) (marks : List Bool) (o : Outcome) → number_of rows k ≡ Some e.key → ask_of rows k ≡ Some o
+    → (if all then slice_set marks e.key true else marks) ≡ marked rows (picked all (ask_of rows) (k ∷ [])) marks
+noted_some true rows k e marks o i h = ap (λ x. mark x marks) (sym i)
+noted_some false rows k e marks o i h = sym (ap (λ x. marked rows (if is_none x then k ∷ [] else []) marks) h)
 
-at_end : (parent : Option Loc) (rows : List Row) (e : Edge) (b : Blame) (asked : List Key) (marks : List Bool) (n : Next) → undecided (ask_of rows) asked ≡ [] → IsNext {X = Term} parent rows (Fails b) n
-    → Wanting parent rows (record { asked = asked; ending = Stops b }) marks (passing n) (noting e n marks)
-at_end parent rows e b asked marks (next.Fault f) u h = record { end = h; marks_are = ap (λ ks. marked rows ks marks) (sym u) }
-at_end parent rows e b asked marks next.Ready u h = absurd h
-at_end parent rows e b asked marks (next.Need m) u h = absurd h
+noted_sane : (all : Bool) (e : Edge) (x y : List Bool) → e.sane ≡ true → (if all && e.sane then x else y) ≡ (if all then x else y)
+noted_sane true e x y h = ap (λ b. if b then x else y) h
+noted_sane false e x y h = refl
 
-at_loop : (parent : Option Loc) (rows : List Row) (e : Edge) (j : Key) (asked : List Key) (marks : List Bool) (n : Next) → undecided (ask_of rows) asked ≡ [] → IsNext {X = Term} parent rows (Turns j) n
-    → Wanting parent rows (record { asked = asked; ending = Circles }) marks (passing n) (noting e n marks)
-at_loop parent rows e j asked marks (next.Fault f) u h = record { end = (j, h); marks_are = ap (λ ks. marked rows ks marks) (sym u) }
-at_loop parent rows e j asked marks next.Ready u h = absurd h
-at_loop parent rows e j asked marks (next.Need m) u h = absurd h
+noted_insane : (all : Bool) (e : Edge) (x y : List Bool) → e.sane ≡ false → (if all && e.sane then x else y) ≡ y
+noted_insane true e x y h = ap (λ b. if b then x else y) h
+noted_insane false e x y h = refl
 
-at_value : (parent : Option Loc) (rows : List Row) (e : Edge) (v : Term) (asked : List Key) (marks : List Bool) (n : Next) → undecided (ask_of rows) asked ≡ [] → IsNext parent rows (Ready v) n
-    → Wanting parent rows (record { asked = asked; ending = Goes }) marks (passing n) (noting e n marks)
-at_value parent rows e v asked marks next.Ready u h = record { end = tt; marks_are = ap (λ ks. marked rows ks marks) (sym u) }
-at_value parent rows e v asked marks (next.Fault f) u h = absurd h
-at_value parent rows e v asked marks (next.Need m) u h = absurd h
+module _ (all : Bool) (parent : Option Loc) (rows : List Row) (e : Edge) (marks : List Bool) (n : Next) where
+  abbrev Noted : List Key → List Bool → Type 0
+  Noted asked new = new ≡ marked rows (picked all (ask_of rows) asked) marks
 
-at_need : (parent : Option Loc) (rows : List Row) (e : Edge) (k : Key) (marks : List Bool) (n : Next) → number_of rows k ≡ Some e.key → undecided (ask_of rows) (k ∷ []) ≡ k ∷ [] → IsNext {X = Term} parent rows (Needs k) n
-    → Wanting parent rows (record { asked = k ∷ []; ending = Goes }) marks (passing n) (noting e n marks)
-at_need parent rows e k marks (next.Need m) i u h = record { end = tt; marks_are = ap (λ x. mark x marks) (sym i) ∙ ap (λ ks. marked rows ks marks) (sym u) }
-at_need parent rows e k marks (next.Fault f) i u h = absurd h
-at_need parent rows e k marks next.Ready i u h = absurd h
+  at_end : (n : Next) (b : Blame) (asked : List Key) → Noted asked (if all && e.sane then slice_set marks e.key true else marks) → IsNext {X = Term} parent rows (Fails b) n
+      → Wanting all parent rows (record { asked = asked; ending = Stops b }) marks (passing n) (noting all e n marks)
+  at_end (next.Fault f) b asked u h = record { end = h; marks_are = u }
+  at_end next.Ready b asked u h = absurd h
+  at_end (next.Need m) b asked u h = absurd h
 
-module _ (parent : Option Loc) (rows : List Row) (k : Key) (e : Edge) (marks : List Bool) (n : Next) (numbered : number_of rows k ≡ Some e.key) where
-  by_allowed : (v : Term) (b : Bool) → undecided (ask_of rows) (k ∷ []) ≡ []
-      → IsNext parent rows (if b then Ready v else Fails (record { at = text_key parent; why = whys.Cors k.loc })) n
-      → Wanting parent rows (record { asked = k ∷ []; ending = if b then Goes else Stops (record { at = text_key parent; why = whys.Cors k.loc }) }) marks (passing n) (noting e n marks)
-  by_allowed v true u h = at_value parent rows e v (k ∷ []) marks n u h
-  by_allowed v false u h = at_end parent rows e _ (k ∷ []) marks n u h
+  at_loop : (n : Next) (j : Key) (asked : List Key) → Noted asked (if all && e.sane then slice_set marks e.key true else marks) → IsNext {X = Term} parent rows (Turns j) n
+      → Wanting all parent rows (record { asked = asked; ending = Circles }) marks (passing n) (noting all e n marks)
+  at_loop (next.Fault f) j asked u h = record { end = (j, h); marks_are = u }
+  at_loop next.Ready j asked u h = absurd h
+  at_loop (next.Need m) j asked u h = absurd h
 
-  by_known : (o : Option Outcome) → ask_of rows k ≡ o → IsNext parent rows (by_outcome (text_key parent) k o) n
-      → Wanting parent rows (record { asked = k ∷ []; ending = ending_by (text_key parent) k o }) marks (passing n) (noting e n marks)
-  by_known None p h = at_need parent rows e k marks n numbered (undecided-none rows k p) h
-  by_known (Some (Good v o)) p h = by_allowed v (allowed (text_key parent) k o) (undecided-some rows k (Good v o) p) h
-  by_known (Some (Bad b)) p h = at_end parent rows e b (k ∷ []) marks n (undecided-some rows k (Bad b) p) h
-  by_known (Some (Loop j)) p h = at_loop parent rows e j (k ∷ []) marks n (undecided-some rows k (Loop j) p) h
+  at_value : (n : Next) (v : Term) (asked : List Key) → Noted asked (if all then slice_set marks e.key true else marks) → IsNext parent rows (Ready v) n
+      → Wanting all parent rows (record { asked = asked; ending = Goes }) marks (passing n) (noting all e n marks)
+  at_value next.Ready v asked u h = record { end = tt; marks_are = u }
+  at_value (next.Fault f) v asked u h = absurd h
+  at_value (next.Need m) v asked u h = absurd h
 
-  by_sane : (b : Bool) → IsNext parent rows (if b then by_outcome (text_key parent) k (ask_of rows k) else Fails (record { at = text_key parent; why = whys.Insane k.loc })) n
-      → Wanting parent rows (if b then record { asked = k ∷ []; ending = ending_by (text_key parent) k (ask_of rows k) } else record { asked = []; ending = Stops (record { at = text_key parent; why = whys.Insane k.loc }) }) marks (passing n) (noting e n marks)
-  by_sane true h = by_known (ask_of rows k) refl h
-  by_sane false h = at_end parent rows e _ [] marks n refl h
+  at_need : (n : Next) (k : Key) → Noted (k ∷ []) (slice_set marks e.key true) → IsNext {X = Term} parent rows (Needs k) n
+      → Wanting all parent rows (record { asked = k ∷ []; ending = Goes }) marks (passing n) (noting all e n marks)
+  at_need (next.Need m) k u h = record { end = tt; marks_are = u }
+  at_need (next.Fault f) k u h = absurd h
+  at_need next.Ready k u h = absurd h
 
-  pub want_visited : IsNext parent rows (walk_key (text_key parent) (ask_of rows) k) n → Wanting parent rows (course_key (text_key parent) (ask_of rows) k) marks (passing n) (noting e n marks)
-  want_visited h = by_sane (is_sane (text_key parent) k) h
+  module _ (k : Key) (is : IsEdge parent rows k e) where
+    by_allowed : (v : Term) (b : Bool) → Noted (k ∷ []) (if all then slice_set marks e.key true else marks) → e.sane ≡ true
+        → IsNext parent rows (if b then Ready v else Fails (record { at = text_key parent; why = whys.Cors k.loc })) n
+        → Wanting all parent rows (record { asked = k ∷ []; ending = if b then Goes else Stops (record { at = text_key parent; why = whys.Cors k.loc }) }) marks (passing n) (noting all e n marks)
+    by_allowed v true u s h = at_value n v (k ∷ []) u h
+    by_allowed v false u s h = at_end n _ (k ∷ []) (noted_sane all e (slice_set marks e.key true) marks s ∙ u) h
+
+    by_known : (o : Option Outcome) → ask_of rows k ≡ o → e.sane ≡ true → IsNext parent rows (by_outcome (text_key parent) k o) n
+        → Wanting all parent rows (record { asked = k ∷ []; ending = ending_by (text_key parent) k o }) marks (passing n) (noting all e n marks)
+    by_known None p s h = at_need n k (noted_none all rows k e marks is.numbered p) h
+    by_known (Some (Good v o)) p s h = by_allowed v (allowed (text_key parent) k o) (noted_some all rows k e marks (Good v o) is.numbered p) s h
+    by_known (Some (Bad b)) p s h = at_end n b (k ∷ []) (noted_sane all e (slice_set marks e.key true) marks s ∙ noted_some all rows k e marks (Bad b) is.numbered p) h
+    by_known (Some (Loop j)) p s h = at_loop n j (k ∷ []) (noted_sane all e (slice_set marks e.key true) marks s ∙ noted_some all rows k e marks (Loop j) is.numbered p) h
+
+    by_sane : (b : Bool) → e.sane ≡ b → IsNext parent rows (if b then by_outcome (text_key parent) k (ask_of rows k) else Fails (record { at = text_key parent; why = whys.Insane k.loc })) n
+        → Wanting all parent rows (if b then record { asked = k ∷ []; ending = ending_by (text_key parent) k (ask_of rows k) } else record { asked = []; ending = Stops (record { at = text_key parent; why = whys.Insane k.loc }) }) marks (passing n) (noting all e n marks)
+    by_sane true s h = by_known (ask_of rows k) refl s h
+    by_sane false s h = at_end n _ [] (noted_insane all e (slice_set marks e.key true) marks s) h
+
+    pub want_visited : IsNext parent rows (walk_key (text_key parent) (ask_of rows) k) n → Wanting all parent rows (course_key (text_key parent) (ask_of rows) k) marks (passing n) (noting all e n marks)
+    want_visited h = by_sane (is_sane (text_key parent) k) (sym (sane_is parent rows k e e.sane is refl)) h
 
 -- ---- the parts of a node in turn
 
@@ -322,22 +347,22 @@ then_twice (Stops b) c d x h = ap (λ u. then_by u c x) h
 then_twice Circles c d x h = ap (λ u. then_by u c x) h
 
 -- what the parts before a place asked, and the edges of the parts from there
-pub record WantSoFar (parent : Option Loc) (rows : List Row) (ks : List Kid) (i : ℕ) (first : List Bool) (n : Next) (marks : List Bool) (rest : List Edge) : Type 0 where
+pub record WantSoFar (all : Bool) (parent : Option Loc) (rows : List Row) (ks : List Kid) (i : ℕ) (first : List Bool) (n : Next) (marks : List Bool) (rest : List Edge) : Type 0 where
   pub begins : Begins parent rows (keys_of_row parent (row_of (drop i ks))) rest
   pub before : Course
-  pub wanting : Wanting parent rows before first n marks
+  pub wanting : Wanting all parent rows before first n marks
   pub whole : then_by before.ending before (all_courses (courses (text_key parent) (ask_of rows) (row_of (drop i ks)))) ≡ all_courses (courses (text_key parent) (ask_of rows) (row_of ks))
 
-pub want-start : (parent : Option Loc) (rows : List Row) (ks : List Kid) (es : List Edge) (marks : List Bool) → Begins parent rows (keys_of_row parent (row_of ks)) es
-    → WantSoFar parent rows ks 0 marks next.Ready marks es
-want-start parent rows ks es marks b = record { begins = b; before = nothing_asked; wanting = want_start parent rows marks; whole = refl }
+pub want-start : (all : Bool) (parent : Option Loc) (rows : List Row) (ks : List Kid) (es : List Edge) (marks : List Bool) → Begins parent rows (keys_of_row parent (row_of ks)) es
+    → WantSoFar all parent rows ks 0 marks next.Ready marks es
+want-start all parent rows ks es marks b = record { begins = b; before = nothing_asked; wanting = want_start all parent rows marks; whole = refl }
 
-pub want-item : (parent : Option Loc) (rows : List Row) (ks : List Kid) (i : ℕ) (k : Kid) (first : List Bool) (m n : Next) (old new : List Bool) (es rest : List Edge) → i < length ks → k ≡ get_or ks i k
+pub want-item : (all : Bool) (parent : Option Loc) (rows : List Row) (ks : List Kid) (i : ℕ) (k : Kid) (first : List Bool) (m n : Next) (old new : List Bool) (es rest : List Edge) → i < length ks → k ≡ get_or ks i k
     → rest ≡ drop (imports (term k.body)) es
-    → (Begins parent rows (keys_of parent (term k.body)) es → (c : Course) (first : List Bool) → Wanting parent rows c first m old
-    → Wanting parent rows (then_by c.ending c (course (text_key parent) (ask_of rows) (term k.body))) first n new)
-    → WantSoFar parent rows ks i first m old es → WantSoFar parent rows ks (i + 1) first n new rest
-want-item parent rows ks i k first m n old new es rest h e p step s =
+    → (Begins parent rows (keys_of parent (term k.body)) es → (c : Course) (first : List Bool) → Wanting all parent rows c first m old
+    → Wanting all parent rows (then_by c.ending c (course (text_key parent) (ask_of rows) (term k.body))) first n new)
+    → WantSoFar all parent rows ks i first m old es → WantSoFar all parent rows ks (i + 1) first n new rest
+want-item all parent rows ks i k first m n old new es rest h e p step s =
     let at = text_key parent in
     let ask = ask_of rows in
     let b = s.before in
@@ -350,20 +375,20 @@ want-item parent rows ks i k first m n old new es rest h e p step s =
           ∙ sym (ap (λ r. then_by b.ending b (all_courses (courses at ask r))) (row_of-drop_item ks i k h e)) ∙ s.whole;
     }
 
-nothing_more : (parent : Option Loc) (rows : List Row) (t : Ending) (c : Course) (first marks : List Bool) (n : Next) → c.ending ≡ t → Wanting parent rows c first n marks → Wanting parent rows (then_by t c nothing_asked) first n marks
-nothing_more parent rows Goes c first marks n h w = record {
+nothing_more : (all : Bool) (parent : Option Loc) (rows : List Row) (t : Ending) (c : Course) (first marks : List Bool) (n : Next) → c.ending ≡ t → Wanting all parent rows c first n marks → Wanting all parent rows (then_by t c nothing_asked) first n marks
+nothing_more all parent rows Goes c first marks n h w = record {
   end = subst (λ t. IsEnd parent rows t n) h w.end;
-  marks_are = w.marks_are ∙ ap (λ ks. marked rows (undecided (ask_of rows) ks) first) (sym (append-nil c.asked));
+  marks_are = w.marks_are ∙ ap (λ ks. marked rows (picked all (ask_of rows) ks) first) (sym (append-nil c.asked));
 }
-nothing_more parent rows (Stops b) c first marks n h w = w
-nothing_more parent rows Circles c first marks n h w = w
+nothing_more all parent rows (Stops b) c first marks n h w = w
+nothing_more all parent rows Circles c first marks n h w = w
 
-pub want-all : (parent : Option Loc) (rows : List Row) (ks : List Kid) (i : ℕ) (first : List Bool) (n : Next) (marks : List Bool) (rest : List Edge) → length ks ≤ i
-    → WantSoFar parent rows ks i first n marks rest → Wanting parent rows (all_courses (courses (text_key parent) (ask_of rows) (row_of ks))) first n marks
-want-all parent rows ks i first n marks rest h s =
+pub want-all : (all : Bool) (parent : Option Loc) (rows : List Row) (ks : List Kid) (i : ℕ) (first : List Bool) (n : Next) (marks : List Bool) (rest : List Edge) → length ks ≤ i
+    → WantSoFar all parent rows ks i first n marks rest → Wanting all parent rows (all_courses (courses (text_key parent) (ask_of rows) (row_of ks))) first n marks
+want-all all parent rows ks i first n marks rest h s =
     let at = text_key parent in
     let ask = ask_of rows in
     let b = s.before in
     let last : then_by b.ending b nothing_asked ≡ all_courses (courses at ask (row_of ks))
     = sym (ap (λ r. then_by b.ending b (all_courses (courses at ask r))) (row_of-drop_all ks i h)) ∙ s.whole in
-    as_course parent rows _ _ first marks n (sym last) (nothing_more parent rows b.ending b first marks n refl s.wanting)
+    as_course all parent rows _ _ first marks n (sym last) (nothing_more all parent rows b.ending b first marks n refl s.wanting)

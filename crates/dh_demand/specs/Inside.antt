@@ -4,3 +4,4 @@ pub mod Going
 pub mod Walking
 pub mod Marking
 pub mod Building
+pub mod Comparing

@@ -14,6 +14,7 @@
 #![tactic(auto)]
 
 mod assembling;
+mod comparing;
 mod ends;
 mod key_lists;
 mod marks;
@@ -26,13 +27,14 @@ mod visits;
 mod wants;
 
 pub use assembling::assemble;
+pub use comparing::is_assembled;
 pub use ends::Next;
 pub use key_lists::import_keys;
 pub use marks::Marks;
 pub use nexts::next;
 pub use results::Results;
 pub use scans::{Edge, Edges, Scan};
-pub use wants::wanted;
+pub use wants::{asked, wanted};
 
 #[cfg(test)]
 mod tests;

@@ -1,4 +1,4 @@
-//! The keys that a walk wants.
+//! The keys that a walk wants, and those that it asks.
 
 ghost use Rattle.std.specs.Prelude.{◌≡◌, List, ◌∷◌, Bool, length, drop};
 ghost use Rattle.std.specs.Option.{option_copied};
@@ -28,6 +28,7 @@ pub fn wanted<R: Results>(scan: &Scan, parent: Option<&Loc>, results: &R, marks:
     ensures { AreMarked (R.rows results.now) (wants (text_key (option_copied parent.entry)) (ask_of (R.rows results.now)) (term scan.now.expr)) marks.old marks.new }
 {
     let (_next, _rest) = want_in(
+        false,
         Next::Ready,
         &scan.expr,
         scan.edges.as_slice(),
@@ -37,9 +38,29 @@ pub fn wanted<R: Results>(scan: &Scan, parent: Option<&Loc>, results: &R, marks:
     );
 }
 
-// Marks the wants of an expression, where the walk came to this before it; and the edges after it.
+/// Marks each key that the walk of a text at this parent asks if each one without an outcome turns out good and passes the
+/// cross-origin test. With no parent, the text is the input. It takes no memory.
+pub fn asked<R: Results>(scan: &Scan, parent: Option<&Loc>, results: &R, marks: &mut Marks)
+    requires fits { Fits (option_copied parent) (R.rows results.now) (term scan.now.expr) scan.now.edges }
+    requires room { HaveMarks marks.old scan.now.edges }
+    ensures { AreMarked (R.rows results.now) (course (text_key (option_copied parent.entry)) (ask_of (R.rows results.now)) (term scan.now.expr)).asked marks.old marks.new }
+{
+    let (_next, _rest) = want_in(
+        true,
+        Next::Ready,
+        &scan.expr,
+        scan.edges.as_slice(),
+        parent,
+        results,
+        marks,
+    );
+}
+
+// Marks the keys that the walk of an expression asks, where it came to this before it: all, or those without an outcome; and
+// the edges after it.
 #[cycle(want)]
 fn want_in<'a, R: Results>(
+    all: bool,
     before: Next,
     e: &Expr,
     edges: &'a [Edge],
@@ -51,8 +72,8 @@ fn want_in<'a, R: Results>(
     requires before_inside { IsInside (R.rows results.now) before }
     requires room { HaveMarks marks.old edges.now }
     ensures wants { Begins (option_copied parent.entry) (R.rows results.now) (keys_of (option_copied parent.entry) (term e.now)) edges.now →
-        (c : Course) (first : List Bool) → Wanting (option_copied parent.entry) (R.rows results.now) c first before marks.old →
-        Wanting (option_copied parent.entry) (R.rows results.now) (then_by c.ending c (course (text_key (option_copied parent.entry)) (ask_of (R.rows results.now)) (term e.now))) first result.0 marks.new }
+        (c : Course) (first : List Bool) → Wanting all (option_copied parent.entry) (R.rows results.now) c first before marks.old →
+        Wanting all (option_copied parent.entry) (R.rows results.now) (then_by c.ending c (course (text_key (option_copied parent.entry)) (ask_of (R.rows results.now)) (term e.now))) first result.0 marks.new }
     ensures inside { IsInside (R.rows results.now) result.0 }
     ensures rest { result.1.now ≡ drop (imports (term e.now)) edges.now }
     ensures room { length marks.new ≡ length marks.old }
@@ -64,17 +85,17 @@ fn want_in<'a, R: Results>(
         Expr::Var(_, _) => (Next::Ready, edges),
         Expr::Node(op, kids) => match node_part(op) {
             Part::Import => {
-                let (next, rest) = want_import(edges, parent, results, marks);
+                let (next, rest) = want_import(all, edges, parent, results, marks);
                 (next, skip_kids(kids, rest))
             }
             Part::Choice => {
                 if kids.len() == 2 {
-                    want_choice(kids, edges, parent, results, marks)
+                    want_choice(all, kids, edges, parent, results, marks)
                 } else {
-                    want_in_kids(kids, edges, parent, results, marks)
+                    want_in_kids(all, kids, edges, parent, results, marks)
                 }
             }
-            Part::Other => want_in_kids(kids, edges, parent, results, marks),
+            Part::Other => want_in_kids(all, kids, edges, parent, results, marks),
         },
     }
 }
@@ -82,6 +103,7 @@ fn want_in<'a, R: Results>(
 // Marks the wants of the parts of a node.
 #[cycle(want)]
 fn want_in_kids<'a, R: Results>(
+    all: bool,
     kids: &Kids,
     edges: &'a [Edge],
     parent: Option<&Loc>,
@@ -91,7 +113,7 @@ fn want_in_kids<'a, R: Results>(
     requires inside { AreInside (R.rows results.now) edges.now }
     requires room { HaveMarks marks.old edges.now }
     ensures wants { Begins (option_copied parent.entry) (R.rows results.now) (keys_of_row (option_copied parent.entry) (row_of kids.now)) edges.now →
-        Wanting (option_copied parent.entry) (R.rows results.now) (all_courses (courses (text_key (option_copied parent.entry)) (ask_of (R.rows results.now)) (row_of kids.now))) marks.old result.0 marks.new }
+        Wanting all (option_copied parent.entry) (R.rows results.now) (all_courses (courses (text_key (option_copied parent.entry)) (ask_of (R.rows results.now)) (row_of kids.now))) marks.old result.0 marks.new }
     ensures inside { IsInside (R.rows results.now) result.0 }
     ensures rest { result.1.now ≡ drop (imports_of_parts (row_of kids.now)) edges.now }
     ensures room { length marks.new ≡ length marks.old }
@@ -99,7 +121,7 @@ fn want_in_kids<'a, R: Results>(
     let mut next = Next::Ready;
     let mut rest = edges;
     for kid in kids.as_slice() {
-        let (after, left) = want_in(next, &kid.body, rest, parent, results, marks);
+        let (after, left) = want_in(all, next, &kid.body, rest, parent, results, marks);
         next = after;
         rest = left;
     }
@@ -109,6 +131,7 @@ fn want_in_kids<'a, R: Results>(
 // Marks the wants of `l ? r`.
 #[cycle(want)]
 fn want_choice<'a, R: Results>(
+    all: bool,
     kids: &Kids,
     edges: &'a [Edge],
     parent: Option<&Loc>,
@@ -119,7 +142,7 @@ fn want_choice<'a, R: Results>(
     requires room { HaveMarks marks.old edges.now }
     requires two { length kids.now ≡ 2 }
     ensures wants { Begins (option_copied parent.entry) (R.rows results.now) (keys_of_row (option_copied parent.entry) (row_of kids.now)) edges.now →
-        Wanting (option_copied parent.entry) (R.rows results.now) (choice_course (courses (text_key (option_copied parent.entry)) (ask_of (R.rows results.now)) (row_of kids.now))) marks.old result.0 marks.new }
+        Wanting all (option_copied parent.entry) (R.rows results.now) (choice_course (courses (text_key (option_copied parent.entry)) (ask_of (R.rows results.now)) (row_of kids.now))) marks.old result.0 marks.new }
     ensures inside { IsInside (R.rows results.now) result.0 }
     ensures rest { result.1.now ≡ drop (imports_of_parts (row_of kids.now)) edges.now }
     ensures room { length marks.new ≡ length marks.old }
@@ -127,9 +150,17 @@ fn want_choice<'a, R: Results>(
     let kids = kids.as_slice();
     let left = &kids[0];
     let right = &kids[1];
-    let (first, middle) = want_in(Next::Ready, &left.body, edges, parent, results, marks);
+    let (first, middle) = want_in(all, Next::Ready, &left.body, edges, parent, results, marks);
     if recovers(&first, results) {
-        want_in(Next::Ready, &right.body, middle, parent, results, marks)
+        want_in(
+            all,
+            Next::Ready,
+            &right.body,
+            middle,
+            parent,
+            results,
+            marks,
+        )
     } else {
         (first, skip(&right.body, middle))
     }
@@ -137,6 +168,7 @@ fn want_choice<'a, R: Results>(
 
 // Marks an import, whose edge is the first, where it has no outcome.
 fn want_import<'a, R: Results>(
+    all: bool,
     edges: &'a [Edge],
     parent: Option<&Loc>,
     results: &R,
@@ -145,7 +177,7 @@ fn want_import<'a, R: Results>(
     requires inside { AreInside (R.rows results.now) edges.now }
     requires room { HaveMarks marks.old edges.now }
     ensures wants { (k : Key) (ks : List Key) → Begins (option_copied parent.entry) (R.rows results.now) (k ∷ ks) edges.now →
-        Wanting (option_copied parent.entry) (R.rows results.now) (course_key (text_key (option_copied parent.entry)) (ask_of (R.rows results.now)) k) marks.old result.0 marks.new }
+        Wanting all (option_copied parent.entry) (R.rows results.now) (course_key (text_key (option_copied parent.entry)) (ask_of (R.rows results.now)) k) marks.old result.0 marks.new }
     ensures inside { IsInside (R.rows results.now) result.0 }
     ensures rest { result.1.now ≡ drop 1 edges.now }
     ensures room { length marks.new ≡ length marks.old }
@@ -157,8 +189,18 @@ fn want_import<'a, R: Results>(
                 marks.set(edge.key, true);
                 (Next::Ready, rest)
             }
-            Next::Ready => (Next::Ready, rest),
-            Next::Fault(stop) => (Next::Fault(stop), rest),
+            Next::Ready => {
+                if all {
+                    marks.set(edge.key, true);
+                }
+                (Next::Ready, rest)
+            }
+            Next::Fault(stop) => {
+                if all && edge.sane {
+                    marks.set(edge.key, true);
+                }
+                (Next::Fault(stop), rest)
+            }
         },
     }
 }

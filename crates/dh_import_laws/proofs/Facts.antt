@@ -22,14 +22,14 @@ use Rattle.dh_import_laws.proofs.Keep.{Inv, lawful-keeps, named-same, named-othe
 
 -- ---- steps lose nothing
 
-record Grows (s s' : State) : Type 0 where
-  longer : Longer s.recorded s'.recorded
-  knows : Knows (outcome_of s) (outcome_of s')
+pub record Grows (s s' : State) : Type 0 where
+  pub longer : Longer s.recorded s'.recorded
+  pub knows : Knows (outcome_of s) (outcome_of s')
 
 same_knows : (s : State) → Knows (outcome_of s) (outcome_of s)
 same_knows s k o h = h
 
-step-grows : (e : Event) (s : State) → Inv s → May e s → Grows s (effect e s)
+pub step-grows : (e : Event) (s : State) → Inv s → May e s → Grows s (effect e s)
 step-grows (Claim worker t) s i m = record { longer = longer-itself s.recorded; knows = λ k o h. h }
 step-grows (Release serial) s i m = record { longer = longer-itself s.recorded; knows = λ k o h. h }
 step-grows (Fetched serial l text) s i m = record {

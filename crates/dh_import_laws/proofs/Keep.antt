@@ -109,6 +109,11 @@ kept n m t (f ∷ fs) h = go (bool-case (eq f.0 n)) (λ q. kept n m t fs q)
     go (inl e) k = kept_skip n m f.0 f.1 t fs e (k (subst (λ c. lookup eq (if c then without n fs else f ∷ without n fs) m ≡ Some t) e h))
     go (inr e) k = kept_cons n m f.0 f.1 t fs e k (subst (λ c. lookup eq (if c then without n fs else f ∷ without n fs) m ≡ Some t) e h)
 
+-- what is still in flight was in flight
+pub flew : (n m : ℕ) (t : Task) (fs : List (ℕ × Task)) → lookup eq (without n fs) m ≡ Some t → lookup eq fs m ≡ Some t
+unfolding Kept
+flew n m t fs h = (kept n m t fs h).0
+
 pub record Inv (s : State) : Type 0 where
   pub log : Log s.recorded s.outcomes
   pub fresh : (n : ℕ) (t : Task) → InFlight s n t → IsUnrecorded s t

@@ -1,9 +1,9 @@
 -- A run keeps one list of cache entries: two ascending lists with the same elements are one.
-use Rattle.std.specs.Prelude.{◌≡◌, ◌⊎◌, ◌↔◌, ℕ, Bool, true, false, ◌&&◌, List, [], ◌∷◌, refl}
+use Rattle.std.specs.Prelude.{◌≡◌, ◌⊎◌, ℕ, true, List, [], ◌∷◌, refl}
 use Rattle.std.proofs.Common.{ap, sym, ◌∙◌, subst, inl, inr}
 use Rattle.dh_syntax.specs.declared.locations.Digest.{Digest}
 use Rattle.dh_syntax.specs.Expressions.Order.{before, ascending}
-use Rattle.dh_syntax.specs.Imports.Keeps.{AreKeeps, IsKept, digests_of}
+use Rattle.dh_syntax.specs.Imports.Keeps.{digests_of}
 use Rattle.dh_syntax.specs.Imports.Machine.{IsAmong}
 use Rattle.dh_syntax.proofs.Numbers.{and-true_left, and-true_right}
 use Rattle.dh_syntax.proofs.Order.{before_irreflexive, before-transitive}

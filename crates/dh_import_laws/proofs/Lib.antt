@@ -2,6 +2,7 @@ pub mod Calm
 pub mod CodeRises
 pub mod CodeSteps
 pub mod Counts
+pub mod Due
 pub mod Facts
 pub mod Graph
 pub mod Grow

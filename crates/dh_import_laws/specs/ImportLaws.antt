@@ -12,7 +12,7 @@ use Rattle.dh_syntax.specs.Normalising.Normal.{HasNormalForm}
 use Rattle.dh_syntax.specs.Expressions.Tree.{Term}
 use Rattle.dh_syntax.specs.Imports.Keys.{bare, key_le}
 use Rattle.dh_syntax.specs.Imports.LastStep.{Code, own, last_step}
-use Rattle.dh_syntax.specs.Imports.Machine.{IsAmong, Task, Fetch, Look, Finish, State, outcome_of, stage_of, root_walk, leads_to, Wanted, IsOpen, InFlight, Event, Claim, Cycled, May, effect, after_all, Lawful}
+use Rattle.dh_syntax.specs.Imports.Machine.{IsAmong, Task, Fetch, Look, Finish, State, outcome_of, stage_of, root_walk, leads_to, Wanted, IsDue, IsOpen, InFlight, Event, Claim, Cycled, May, effect, after_all, Lawful}
 use Rattle.dh_syntax.specs.declared.outcomes.Origin.TheVariants as origins
 use Rattle.dh_syntax.specs.declared.outcomes.Why.TheVariants as whys
 use Rattle.dh_syntax.specs.declared.outcomes.Why.{Why}
@@ -127,6 +127,12 @@ abbrev pub InFlightUnrecorded : Type 0
 InFlightUnrecorded =
     (root : Term) (es : List Event) (n : ℕ) (t : Task) → Lawful root es
     → InFlight (after_all root es) n t → IsUnrecorded (after_all root es) t
+
+-- The last step of a key whose finish is in flight is due.
+abbrev pub InFlightDue : Type 0
+InFlightDue =
+    (root : Term) (es : List Event) (n : ℕ) (k : Key) → Lawful root es
+    → InFlight (after_all root es) n (Finish k) → IsDue (stage_of (after_all root es) k)
 
 -- A step changes no outcome, and no end of the root.
 abbrev pub OutcomesStay : Type 0

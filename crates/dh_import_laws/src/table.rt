@@ -1,5 +1,5 @@
 //! Laws of the table that workers share.
-ghost use Rattle.dh_import_laws.specs.ImportLaws.{OutcomesAreResolved, RootIsResolved, VisitsAreResolved, GoesOn, FetchesAreWanted, FrozenLeadAfterLooks, InFlightOnce, InFlightUnrecorded, OutcomesStay, RootStays, TooManyStay, TextsAreParsed, EntriesAreGood, LimitsAreLicensed};
+ghost use Rattle.dh_import_laws.specs.ImportLaws.{OutcomesAreResolved, RootIsResolved, VisitsAreResolved, GoesOn, FetchesAreWanted, FrozenLeadAfterLooks, InFlightOnce, InFlightUnrecorded, InFlightDue, OutcomesStay, RootStays, TooManyStay, TextsAreParsed, EntriesAreGood, LimitsAreLicensed};
 
 /// After every history each outcome, and the end of the root, is the resolver's over the record; at a ready root so are
 /// the visited keys.
@@ -21,10 +21,11 @@ pub fn only_wanted()
     ensures frozen { FrozenLeadAfterLooks }
 {}
 
-/// A task is in flight under one serial at most, and what is in flight is not recorded.
+/// A task is in flight under one serial at most, what is in flight is not recorded, and a finish that is in flight is due.
 pub fn in_flight_once()
     ensures once { InFlightOnce }
     ensures unrecorded { InFlightUnrecorded }
+    ensures due { InFlightDue }
 {}
 
 /// A step changes no outcome and no end of the root, and keys that are too many stay so.

@@ -1,7 +1,7 @@
 -- A table before its first step.
-use Rattle.std.specs.Prelude.{◌≡◌, ◌<◌, ◌≤◌, ◌^◌, ◌++◌, ℕ, Bool, true, false, if◌then◌else◌, List, [], ◌∷◌, length, map, reverse, All, Option, Some, None, nat_lt, refl}
+use Rattle.std.specs.Prelude.{◌≡◌, ◌<◌, ◌≤◌, ◌^◌, ℕ, Bool, true, false, if◌then◌else◌, List, [], ◌∷◌, length, map, reverse, All, Option, None, nat_lt, refl}
 use Rattle.std.specs.Option.{option_map}
-use Rattle.std.proofs.Common.{ap, sym, ◌∙◌, subst, arith, append-nil, lt-ltb, le-ltb}
+use Rattle.std.proofs.Common.{ap, sym, ◌∙◌, subst, append-nil, lt-ltb, le-ltb}
 use Rattle.std.proofs.lemmas.List.{length-map}
 use Rattle.std.proofs.lemmas.List.Elements.{All-nil, All-cons, All-head, All-tail, All-weaker}
 use Rattle.dh_syntax.specs.declared.locations.Key.{Key}
@@ -11,14 +11,14 @@ use Rattle.dh_syntax.specs.Expressions.Tree.{Term}
 use Rattle.dh_syntax.specs.Imports.Keys.{key_eq}
 use Rattle.dh_syntax.specs.Imports.Machine.{opening}
 use Rattle.dh_syntax.specs.Imports.Outcomes.{plain}
-use Rattle.dh_syntax.specs.Imports.Replay.{keys, distinct, has_too_many, with_bare}
+use Rattle.dh_syntax.specs.Imports.Replay.{keys, distinct, with_bare}
 use Rattle.dh_syntax.specs.Imports.Resolver.{is_in}
-use Rattle.dh_syntax.specs.Imports.Walk.{Ask, keys_of}
+use Rattle.dh_syntax.specs.Imports.Walk.{keys_of}
 use Rattle.dh_syntax.specs.Limits.{most_keys}
 use Rattle.dh_demand.specs.declared.scans.Edge.{Edge}
 use Rattle.dh_demand.specs.declared.scans.Scan.{Scan}
-use Rattle.dh_demand.specs.Results.{Row, number_of, ask_of}
-use Rattle.dh_demand.specs.Scans.{IsEdge, Begins, AreInside, Fits}
+use Rattle.dh_demand.specs.Results.{Row, ask_of}
+use Rattle.dh_demand.specs.Scans.{Begins, AreInside, Fits}
 use Rattle.dh_demand.proofs.Numbers.{within}
 use Rattle.dh_table.specs.declared.texts.Entrant.{Entrant}
 use Rattle.dh_table.specs.Inside.Entering.{AreDistinct, key_of_entrant, keys_in, entered_all, IsListed, IsNew, AreMore, AreEdges}
@@ -55,6 +55,9 @@ new_asks (e ∷ es) k h = go (key_eq e.key k) (new_asks es k (All-tail IsNew e e
 module _ (root : Scan) (es : List Entrant) (m : AreMore [] (entered_all [] (keys_of None (term root.expr))) es) where
   all_more : (P : Entrant → Type 0) → All P m.more → All P es
   all_more P h = subst (λ xs. All P xs) (sym m.new_is) h
+
+  pub all_new : All IsNew es
+  all_new = all_more IsNew m.are_new
 
   pub all_owned : All IsOwned es
   all_owned = All-weaker IsNew IsOwned (λ e n u. n.own_is) es (all_more IsNew m.are_new)

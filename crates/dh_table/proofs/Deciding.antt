@@ -1,7 +1,7 @@
 -- A key gets its outcome: what stays of the other keys, and of all that names keys by their numbers.
 use Rattle.std.specs.Prelude.{◌≡◌, ◌≢◌, ◌<◌, ◌≤◌, ◌^◌, ℕ, zero, suc, Bool, true, false, ◌||◌, if◌then◌else◌, List, [], ◌∷◌, ◌++◌, length, map, reverse, All, Option, Some, None, Result, Ok, Err, slice_index_or, slice_set, refl}
 use Rattle.std.specs.Option.{option_map}
-use Rattle.std.proofs.Common.{ap, sym, ◌∙◌, subst, arith, inl, inr, eqb, get_or}
+use Rattle.std.proofs.Common.{ap, sym, ◌∙◌, subst, arith, inl, inr}
 use Rattle.std.proofs.lemmas.Bool.Decides.{eqb_tells}
 use Rattle.std.proofs.lemmas.List.{get_or-set_same, get_or-set_other, length-set, length-map}
 use Rattle.std.proofs.lemmas.List.Elements.{All-weaker, All-set, All-get_or}
@@ -14,18 +14,18 @@ use Rattle.dh_syntax.specs.Expressions.Bridge.{term}
 use Rattle.dh_syntax.specs.Expressions.Tree.{Term}
 use Rattle.dh_syntax.specs.Imports.Keys.{bare, key_eq}
 use Rattle.dh_syntax.specs.Imports.Outcomes.{Outcome, plain}
-use Rattle.dh_syntax.specs.Imports.Records.{lookup}
+use Rattle.dh_syntax.specs.Imports.Records.{lookup, Record}
 use Rattle.dh_syntax.specs.Imports.Resolver.{is_in}
 use Rattle.dh_syntax.specs.Imports.Walk.{keys_of}
-use Rattle.dh_laws.proofs.KeyOrder.{bool-case, true_false, none-some, some-equal, key_eq-true, key_eq-itself}
+use Rattle.dh_laws.proofs.KeyOrder.{true_false, none-some, some-equal, key_eq-true, key_eq-itself}
 use Rattle.dh_demand.specs.declared.scans.Edge.{Edge}
 use Rattle.dh_demand.specs.declared.scans.Scan.{Scan}
-use Rattle.dh_demand.specs.Results.{Row, number_of, outcome_at, ask_of}
-use Rattle.dh_demand.specs.Scans.{IsEdge, Begins, Fits}
+use Rattle.dh_demand.specs.Results.{number_of, outcome_at, ask_of}
+use Rattle.dh_demand.specs.Scans.{Begins, Fits}
 use Rattle.dh_demand.proofs.Numbers.{stands}
 use Rattle.dh_import_laws.proofs.Facts.{limits_are_licensed}
 use Rattle.dh_syntax.specs.declared.outcomes.Why.{Why}
-use Rattle.dh_syntax.specs.Imports.Machine.{State, Event, Lawful, after_all, outcome_of, with_outcome}
+use Rattle.dh_syntax.specs.Imports.Machine.{State, Event, Lawful, after_all, outcome_of, with_outcome, Task, with_limit}
 use Rattle.dh_syntax.specs.Imports.Replay as replay
 use Rattle.dh_syntax.specs.Imports.Walk.{Ask}
 use Rattle.dh_table.specs.declared.steps.Flight.{Flight}
@@ -37,7 +37,7 @@ use Rattle.dh_table.specs.declared.texts.Text.{Text}
 use Rattle.dh_table.specs.Inside.Entering.{AreDistinct, key_of_entrant, keys_in, IsListed, decided_at}
 use Rattle.dh_table.specs.Inside.Reading.{IsScan, IsRead}
 use Rattle.dh_table.specs.Shown.{Shown}
-use Rattle.dh_table.specs.States.{nobody, rows_of, row_of_entrant, key_named, known, outcome_of_number, limit_of, why_of, text_of, look_of, flight_of, task_of, task_by, step_by, state_of}
+use Rattle.dh_table.specs.States.{nobody, rows_of, row_of_entrant, key_named, known, outcome_of_number, limit_of, why_of, text_of, look_of, flight_of, task_of, task_by, step_by, state_of, limit_by, record_of}
 use Rattle.dh_table.specs.Tables.{IsKnown, IsOwned}
 use Rattle.dh_table.proofs.Logs.{reverse-cons, latest, mapped}
 
@@ -266,6 +266,35 @@ module _ (t : Shown) (n : ℕ) (o : program.Outcome) (l : n < length t.keys) (d 
         drawn = tasks i;
       }
 
+  -- ---- a finish: the limit too, where the outcome is one
+
+  abbrev limits_after : (limited : Bool) → List ℕ
+  limits_after limited = if limited then t.limited ++ n ∷ [] else t.limited
+
+  limits_are : (limited : Bool) (r : Record) → r.limits ≡ reverse (map (limit_of (decided_at t.keys n o)) (limits_after limited)) → r.texts ≡ (record_of t).texts → r.looks ≡ (record_of t).looks
+      → r ≡ with_limit (record_of t) (key_named t.keys n) (limit_by limited o)
+  limits_are true r p q h =
+      let all : r.limits ≡ (key_named t.keys n, why_of (Some o)) ∷ reverse (map (limit_of t.keys) t.limited) =
+      p ∙ latest (limit_of (decided_at t.keys n o)) t.limited n ∙ λ i. (names t.keys n o l d i n, why_of (outcome_here t.keys n o l d i)) ∷ reverse (limits_same i) in
+      λ i. record { texts = q i; looks = h i; limits = all i }
+  limits_are false r p q h =
+      let all : r.limits ≡ reverse (map (limit_of t.keys) t.limited) = p ∙ ap reverse limits_same in
+      λ i. record { texts = q i; looks = h i; limits = all i }
+
+  pub finished_state : (t' : Shown) (limited : Bool) (fs : List (ℕ × Task)) → t'.root ≡ t.root → t'.keys ≡ decided_at t.keys n o → t'.texts ≡ t.texts → t'.looks ≡ t.looks → t'.decided ≡ t.decided ++ n ∷ [] → t'.limited ≡ (if limited then t.limited ++ n ∷ [] else t.limited)
+      → reverse (map (flight_of t.keys) t'.flights) ≡ fs → t'.drawn ≡ t.drawn
+      → state_of t' ≡ with_outcome (record (state_of t) { flights = fs; recorded = with_limit (record_of t) (key_named t.keys n) (limit_by limited o) }) (key_named t.keys n) (plain o)
+  finished_state t' limited fs root keys texts looks decided limits flying drawn =
+      let outcomes : reverse (map (outcome_of_number t'.keys) t'.decided) ≡ (key_named t.keys n, plain o) ∷ reverse (map (outcome_of_number t.keys) t.decided) =
+      (λ i. reverse (map (outcome_of_number (keys i)) (decided i)))
+      ∙ latest (outcome_of_number (decided_at t.keys n o)) t.decided n
+      ∙ λ i. outcome_first i ∷ reverse (outcomes_same i) in
+      let flights : reverse (map (flight_of t'.keys) t'.flights) ≡ fs = (λ i. reverse (map (flight_of (keys i)) t'.flights)) ∙ ap reverse (flights_same t'.flights) ∙ flying in
+      let tasks : reverse (map (task_of t'.keys) t'.drawn) ≡ reverse (map (task_of t.keys) t.drawn) = (λ i. reverse (map (task_of (keys i)) (drawn i))) ∙ ap reverse (drawn_same t.drawn) in
+      let recorded : record_of t' ≡ with_limit (record_of t) (key_named t.keys n) (limit_by limited o) =
+      limits_are limited (record_of t') (λ i. reverse (map (limit_of (keys i)) (limits i))) (ap (λ ts. reverse (map text_of ts)) texts) (ap (λ ls. reverse (map look_of ls)) looks) in
+      λ i. record { root = term (root i).expr; recorded = recorded i; outcomes = outcomes i; flights = flights i; drawn = tasks i }
+
   pub decided_steps : (hs : List Step) → map (step_by (decided_at t.keys n o)) hs ≡ map (step_by t.keys) hs
   decided_steps [] = refl
   decided_steps (h ∷ hs) = λ i. step_same h i ∷ decided_steps hs i
@@ -278,6 +307,9 @@ module _ (t : Shown) (n : ℕ) (o : program.Outcome) (l : n < length t.keys) (d 
       step_same (steps.Finished m) = refl
       step_same (steps.Late m) = refl
       step_same (steps.Cycled k) = λ i. replay.Cycled (names t.keys n o l d i k)
+
+  pub finished_history : (hs hs' : List Step) (serial : ℕ) → hs' ≡ hs ++ steps.Finished serial ∷ [] → map (step_by (decided_at t.keys n o)) hs' ≡ map (step_by t.keys) hs ++ replay.Finished serial ∷ []
+  finished_history hs hs' serial p = mapped (step_by (decided_at t.keys n o)) hs hs' (steps.Finished serial) p ∙ λ i. decided_steps hs i ++ replay.Finished serial ∷ []
 
   pub decided_history : (hs hs' : List Step) → hs' ≡ hs ++ steps.Cycled n ∷ [] → map (step_by (decided_at t.keys n o)) hs' ≡ map (step_by t.keys) hs ++ replay.Cycled (key_named t.keys n) ∷ []
   decided_history hs hs' p =

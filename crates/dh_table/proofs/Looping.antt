@@ -1,10 +1,10 @@
 -- Where nothing is in flight and no task is open, blocking keys lead into a loop.
-use Rattle.std.specs.Prelude.{◌≡◌, ◌⊎◌, ◌<◌, ◌≤◌, ◌+◌, ℕ, zero, suc, Bool, true, false, ◌||◌, if◌then◌else◌, List, [], ◌∷◌, ◌++◌, length, map, reverse, take, All, replicate, ◌*◌, Option, Some, None, slice_set, sum_by, refl}
-use Rattle.std.proofs.Common.{ap, sym, ◌∙◌, subst, arith, inl, inr, get_or}
+use Rattle.std.specs.Prelude.{◌≡◌, ◌<◌, ℕ, Bool, true, false, ◌||◌, List, [], ◌∷◌, length, replicate, ◌*◌, Some, slice_set, refl}
+use Rattle.std.proofs.Common.{ap, sym, ◌∙◌, subst, arith, inl, inr}
 use Rattle.std.proofs.lemmas.List.Folds.{sum_by-replicate}
 use Rattle.dh_syntax.specs.declared.locations.Key.{Key}
 use Rattle.dh_syntax.specs.Imports.Keys.{key_eq}
-use Rattle.dh_syntax.specs.Imports.Machine.{Task, State, IsOpen, Wanted, Blocks, outcome_of, stage_of, root_walk}
+use Rattle.dh_syntax.specs.Imports.Machine.{State, Blocks, outcome_of, stage_of, root_walk}
 use Rattle.dh_syntax.specs.Imports.Resolver.{Stage, TextOf, LookOf, Lacks, Has, Meets, Waits, stage, is_in, least_back_to}
 use Rattle.dh_syntax.specs.Imports.Walk.{Needs}
 use Rattle.dh_laws.proofs.KeyOrder.{none-some, key_eq-itself}
@@ -18,7 +18,7 @@ use Rattle.dh_table.specs.declared.texts.Look.{Look}
 use Rattle.dh_table.specs.declared.texts.Text.{Text}
 use Rattle.dh_table.specs.declared.visits.Reach.TheVariants as reaches
 use Rattle.dh_table.specs.Inside.Reading.{record_by, IsReach}
-use Rattle.dh_table.specs.Inside.Searching.{Flies, IsStuck, IsNextStuck, IsLoop, is_set, one_unless, unseen}
+use Rattle.dh_table.specs.Inside.Searching.{IsStuck, IsNextStuck, IsLoop, is_set, one_unless, unseen}
 use Rattle.dh_table.specs.States.{rows_of, key_named}
 use Rattle.dh_table.proofs.Reading.{number_names}
 use Rattle.dh_table.proofs.Seeing.{stage_stands, open_job, set_cases}

@@ -1,9 +1,7 @@
 -- The number of a key is the place of its first row.
-use Rattle.std.specs.Prelude.{◌≡◌, ◌<◌, ◌≤◌, ℕ, zero, suc, ◌+◌, true, false, if◌then◌else◌, List, [], ◌∷◌, length, Some, None, refl}
+use Rattle.std.specs.Prelude.{◌≡◌, ◌<◌, ℕ, zero, suc, true, false, if◌then◌else◌, List, [], ◌∷◌, length, Some}
 use Rattle.std.specs.Option.{option_map}
 use Rattle.std.proofs.Common.{ap, sym, ◌∙◌, arith, get_or}
-use borrow.Author.Count.{below_more}
-use Rattle.std.proofs.lemmas.List.{get_or_default}
 use Rattle.dh_syntax.specs.declared.locations.Key.{Key}
 use Rattle.dh_syntax.specs.Imports.Keys.{key_eq}
 use Rattle.dh_demand.specs.Results.{number_of}
@@ -20,15 +18,3 @@ number_first (e ∷ es) k zero d h before here = sym (ap (λ b. if b then Some 0
 number_first (e ∷ es) k (suc i) d h before here =
     ap (option_map suc) (number_first es k i d (omega arith) (λ n m c l. before (suc n) (omega arith) c (omega arith)) here)
     ∙ sym (ap (λ b. if b then Some 0 else option_map suc (number_of (rows_of es) k)) (before 0 (omega arith) d (omega arith)))
-
-pub number_none : (es : List Entrant) (k : Key) (i : ℕ) → length es ≤ i → NotBefore es k i → None ≡ number_of (rows_of es) k
-number_none [] k i h before = refl
-number_none (e ∷ es) k zero h before = absurd (omega arith)
-number_none (e ∷ es) k (suc i) h before =
-    ap (option_map suc) (number_none es k i (omega arith) (λ n m d l. before (suc n) (omega arith) d (omega arith)))
-    ∙ sym (ap (λ b. if b then Some 0 else option_map suc (number_of (rows_of es) k)) (before 0 (omega arith) e (omega arith)))
-
-pub not_before_more : (es : List Entrant) (k : Key) (i : ℕ) (e : Entrant) → key_eq (get_or es i e).key k ≡ false → NotBefore es k i → NotBefore es k (i + 1)
-not_before_more es k i e here before =
-    below_more (λ n. (d : Entrant) → n < length es → key_eq (get_or es n d).key k ≡ false) i before
-    (λ d h. ap (λ (x : Entrant). key_eq x.key k) (get_or_default es i d e h) ∙ here)

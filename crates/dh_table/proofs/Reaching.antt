@@ -1,5 +1,5 @@
 -- What is left to do for a key, and to which keys it leads.
-use Rattle.std.specs.Prelude.{◌≡◌, ◌<◌, ℕ, Bool, true, false, if◌then◌else◌, List, [], ◌∷◌, length, Option, Some, None, is_none, slice_set, refl}
+use Rattle.std.specs.Prelude.{◌≡◌, ◌<◌, ℕ, Bool, true, if◌then◌else◌, List, [], ◌∷◌, length, Option, Some, None, is_none, slice_set, refl}
 use Rattle.std.specs.Option.{option_map}
 use Rattle.std.proofs.Common.{ap, sym, ◌∙◌, subst, inl, inr, Bor}
 use Rattle.dh_syntax.specs.declared.locations.Key.{Key}
@@ -9,8 +9,8 @@ use Rattle.dh_syntax.specs.Expressions.Tree.{Term}
 use Rattle.dh_syntax.specs.Imports.Machine.{IsAmong, leads_by}
 use Rattle.dh_syntax.specs.Imports.Outcomes.{Outcome, Good, Bad, Loop, plain}
 use Rattle.dh_syntax.specs.Imports.Resolver.{Plan, TextOf, LookOf, Unknown, Now, Walks, Asks, of_plan, of_bare, of_walk}
-use Rattle.dh_syntax.specs.Imports.Walk.{Ask, Walked, Ready, Fails, Turns, Needs, walk, wants}
-use Rattle.dh_laws.proofs.KeyOrder.{none-some, some-equal}
+use Rattle.dh_syntax.specs.Imports.Walk.{Walked, Ready, Fails, Turns, Needs, walk, wants}
+use Rattle.dh_laws.proofs.KeyOrder.{some-equal}
 use Rattle.dh_demand.specs.declared.ends.Next.{Next}
 use Rattle.dh_demand.specs.declared.ends.Next.TheVariants as next
 use Rattle.dh_demand.specs.declared.scans.Edge.{Edge}
@@ -18,7 +18,7 @@ use Rattle.dh_demand.specs.declared.scans.Scan.{Scan}
 use Rattle.dh_demand.specs.Inside.Marking.{mark}
 use Rattle.dh_demand.specs.Nexts.{IsNext}
 use Rattle.dh_demand.specs.Results.{Row, number_of, outcome_at, ask_of}
-use Rattle.dh_demand.specs.Scans.{Fits, text_key}
+use Rattle.dh_demand.specs.Scans.{text_key}
 use Rattle.dh_demand.specs.Wants.{AreMarked}
 use Rattle.dh_demand.proofs.Numbers.{within, stands}
 use Rattle.dh_demand.proofs.Wanting.{are_marked}

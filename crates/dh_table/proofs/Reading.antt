@@ -1,5 +1,5 @@
 -- What a table reads in its record, against the plan and the stage of a key.
-use Rattle.std.specs.Prelude.{◌≡◌, ◌⊎◌, ◌<◌, ◌≤◌, ◌+◌, ℕ, zero, suc, Bool, true, false, if◌then◌else◌, List, [], ◌∷◌, ◌++◌, length, map, reverse, take, filter, Option, Some, None, is_some, is_none, Result, Ok, Err, slice_index_or, All, refl}
+use Rattle.std.specs.Prelude.{◌≡◌, ◌⊎◌, ◌<◌, ◌≤◌, ◌+◌, ℕ, zero, suc, Bool, true, false, if◌then◌else◌, List, [], ◌∷◌, length, map, reverse, take, filter, Option, Some, None, is_none, refl}
 use Rattle.std.specs.Option.{option_map}
 use Rattle.std.proofs.Common.{ap, sym, ◌∙◌, subst, arith, inl, inr, get_or}
 use Rattle.std.proofs.lemmas.List.{take_more, take_all}
@@ -10,21 +10,18 @@ use Rattle.dh_syntax.specs.declared.locations.Mode.{Mode}
 use Rattle.dh_syntax.specs.declared.locations.Mode.TheVariants as modes
 use Rattle.dh_syntax.specs.declared.outcomes.Why.{Why}
 use Rattle.dh_syntax.specs.Expressions.Tree.{Term}
-use Rattle.dh_syntax.specs.Imports.Keys.{bare, key_eq}
-use Rattle.dh_syntax.specs.Imports.Machine.{IsAmong, State, outcome_of, stage_of, leads_by, leads_to}
+use Rattle.dh_syntax.specs.Imports.Keys.{key_eq}
+use Rattle.dh_syntax.specs.Imports.Machine.{IsAmong}
 use Rattle.dh_syntax.specs.Imports.Records.{Record, lookup}
-use Rattle.dh_syntax.specs.Imports.Resolver.{plan, plan_fetch, plan_mode, plan_digest, unfetched, of_plan, stage, Stage, Unknown, Now, Walks, Asks}
-use Rattle.dh_syntax.specs.Imports.Walk.{Ask, course, undecided, wants, keys_of, place}
+use Rattle.dh_syntax.specs.Imports.Resolver.{plan, plan_fetch, plan_mode, plan_digest, unfetched}
+use Rattle.dh_syntax.specs.Imports.Walk.{Ask, course, wants, keys_of, place}
 use Rattle.dh_laws.proofs.KeyOrder.{none-some, key_eq-true}
 use Rattle.dh_import_laws.proofs.Wants.{asked-keys}
 use Rattle.dh_demand.specs.declared.scans.Edge.{Edge}
-use Rattle.dh_demand.specs.Results.{Row, number_of, key_at, ask_of}
-use Rattle.dh_demand.specs.Scans.{IsEdge, Begins, Fits}
-use Rattle.dh_table.specs.declared.steps.Flight.{Flight}
+use Rattle.dh_demand.specs.Results.{Row, number_of, key_at}
+use Rattle.dh_demand.specs.Scans.{Begins, Fits}
 use Rattle.dh_table.specs.declared.texts.Entrant.{Entrant}
-use Rattle.dh_table.specs.declared.texts.Look.{Look}
-use Rattle.dh_table.specs.declared.texts.Text.{Text}
-use Rattle.dh_table.specs.Inside.Reading.{record_by, IsNumbered}
+use Rattle.dh_table.specs.Inside.Reading.{IsNumbered}
 use Rattle.dh_table.specs.States.{rows_of, key_named}
 use Rattle.dh_table.proofs.Logs.{latest}
 

@@ -1,5 +1,5 @@
 -- Whether the root is decided.
-use Rattle.std.specs.Prelude.{◌≡◌, ◌<◌, ◌≤◌, ℕ, suc, Bool, true, false, if◌then◌else◌, List, [], ◌∷◌, length, Option, Some, None, IsSome, refl}
+use Rattle.std.specs.Prelude.{◌≡◌, ℕ, suc, Bool, true, false, if◌then◌else◌, List, [], ◌∷◌, length, Option, Some, None, IsSome, refl}
 use Rattle.std.specs.Option.{option_map}
 use Rattle.std.proofs.Common.{ap, sym, ◌∙◌, subst}
 use Rattle.std.proofs.lemmas.List.{length-map}
@@ -9,7 +9,7 @@ use Rattle.dh_syntax.specs.Imports.Keys.{key_eq}
 use Rattle.dh_syntax.specs.Imports.Outcomes.{plain}
 use Rattle.dh_laws.proofs.KeyOrder.{none-some, some-equal}
 use Rattle.dh_syntax.specs.Imports.Machine.{State, root_walk}
-use Rattle.dh_syntax.specs.Imports.Replay.{RootEnd, too_many, distinct, has_too_many, root_end, end_of}
+use Rattle.dh_syntax.specs.Imports.Replay.{too_many, distinct, has_too_many, root_end, end_of}
 use Rattle.dh_syntax.specs.Imports.Walk.{Walked, Ready, Fails, Turns, Needs}
 use Rattle.dh_demand.specs.declared.ends.Next.TheVariants as next
 use Rattle.dh_demand.specs.declared.scans.Scan.{Scan}

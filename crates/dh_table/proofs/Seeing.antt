@@ -1,38 +1,34 @@
 -- The search for an open task: what is known of marks, as keys are seen.
-use Rattle.std.specs.Prelude.{◌≡◌, ◌⊎◌, ◌<◌, ◌≤◌, ◌+◌, ℕ, zero, suc, Bool, true, false, if◌then◌else◌, List, [], ◌∷◌, ◌++◌, length, map, reverse, replicate, Option, Some, None, slice_index_or, slice_set, MatchOption, refl}
-use Rattle.std.proofs.Common.{ap, sym, ◌∙◌, subst, arith, inl, inr, eqb}
+use Rattle.std.specs.Prelude.{◌≡◌, ◌⊎◌, ◌<◌, ◌≤◌, ℕ, Bool, true, false, List, [], length, replicate, None, slice_set, refl, IsSome, is_some}
+use Rattle.std.proofs.Common.{ap, sym, ◌∙◌, subst, arith, inl, inr}
 use Rattle.std.proofs.lemmas.Bool.Decides.{eqb_tells}
 use Rattle.std.proofs.lemmas.List.{get_or-set_same, get_or-set_other, get_or-replicate, length-replicate}
 use Rattle.std.proofs.Math.ListN.{get_or-eq_default}
 use Rattle.std.proofs.lemmas.Bool.{cases_lt, false≢true}
 use Rattle.std.proofs.lemmas.List.Sums.{sum_by-set}
-use Rattle.dh_syntax.specs.declared.locations.Digest.{Digest}
 use Rattle.dh_syntax.specs.declared.locations.Key.{Key}
 use Rattle.dh_syntax.specs.Expressions.Numbers.{eq}
 use Rattle.dh_syntax.specs.Imports.Machine as machine
 use Rattle.dh_syntax.specs.Imports.Machine.{IsAmong, Task, State, InFlight, IsOpen, TaskOf, looks, fetches, finishes, IsDue, Wanted, by_root, by_key, leads_to, outcome_of, stage_of}
-use Rattle.dh_syntax.specs.Imports.Records.{Record, lookup}
-use Rattle.dh_syntax.specs.Imports.Resolver.{plan, plan_fetch, plan_mode, plan_digest, unfetched, of_plan, stage, Stage, TextOf, LookOf, Lacks, Has, Meets, Waits}
+use Rattle.dh_syntax.specs.Imports.Records.{lookup}
+use Rattle.dh_syntax.specs.Imports.Resolver.{plan, of_plan, stage, Stage, TextOf, LookOf, Lacks, Has, Meets, Waits}
 use Rattle.dh_syntax.specs.Imports.Walk.{wants}
 use Rattle.dh_syntax.specs.Imports.Machine.{leads_by}
 use Rattle.dh_syntax.specs.Expressions.Tree.{Term}
 use Rattle.dh_demand.specs.declared.scans.Edge.{Edge}
-use Rattle.dh_demand.specs.Results.{Row, number_of, ask_of}
+use Rattle.dh_demand.specs.Results.{Row, ask_of}
 use Rattle.dh_demand.specs.Scans.{Fits}
-use Rattle.dh_demand.specs.Wants.{AreMarked, HasNumber}
-use Rattle.dh_table.specs.declared.searches.Pass.TheVariants as passes
+use Rattle.dh_demand.specs.Wants.{AreMarked}
 use Rattle.dh_table.specs.declared.steps.Flight.{Flight}
-use Rattle.dh_table.specs.declared.steps.Job.{Job}
 use Rattle.dh_table.specs.declared.steps.Kind.{Kind}
 use Rattle.dh_table.specs.declared.steps.Kind.TheVariants as kinds
 use Rattle.dh_table.specs.declared.texts.Entrant.{Entrant}
 use Rattle.dh_table.specs.declared.texts.Look.{Look}
 use Rattle.dh_table.specs.declared.texts.Text.{Text}
-use Rattle.dh_table.specs.declared.visits.Reach.{Reach}
 use Rattle.dh_table.specs.declared.visits.Reach.TheVariants as reaches
 use Rattle.dh_table.specs.Inside.Reading.{record_by, IsReach, IsNumbered}
-use Rattle.dh_table.specs.Inside.Searching.{Stands, Flies, IsTaskAt, is_set, IsMarked, IsSeen, IsExplored, IsStill, IsJob, IsFound, one_unless, unseen}
-use Rattle.dh_table.specs.States.{rows_of, key_named, digest_or_none, task_by, task_of, flight_of}
+use Rattle.dh_table.specs.Inside.Searching.{Stands, Flies, IsTaskAt, is_set, IsMarked, IsSeen, IsExplored, IsStill, IsJob, one_unless, unseen}
+use Rattle.dh_table.specs.States.{rows_of, key_named, digest_or_none, task_by}
 use Rattle.dh_table.proofs.Reading.{number_names, plan_limits, wants_numbered}
 
 -- ---- a state by the parts of a table
@@ -99,6 +95,24 @@ due_task rows k (Meets j) kinds.Look r = absurd r
 due_task rows k (Waits y) kinds.Fetch r = absurd r
 due_task rows k (Waits y) kinds.Look r = absurd r
 due_task rows k (Waits y) kinds.Finish r = absurd r
+
+-- a look is due for a key with a digest
+pub frozen_reach : (rows : List Row) (k : Key) (x : Stage) (kind : Kind) → IsReach rows k x (reaches.Due kind) → kind ≡ kinds.Look → IsSome k.digest
+frozen_reach rows k (Lacks (TextOf l)) kinds.Fetch r p = cc
+frozen_reach rows k (Lacks (LookOf d)) kinds.Look r p = ap is_some r
+frozen_reach rows k (Has i) kinds.Finish r p = cc
+frozen_reach rows k (Meets j) kinds.Finish r p = cc
+frozen_reach rows k (Lacks (TextOf l)) kinds.Look r p = absurd r
+frozen_reach rows k (Lacks (TextOf l)) kinds.Finish r p = absurd r
+frozen_reach rows k (Lacks (LookOf d)) kinds.Fetch r p = absurd r
+frozen_reach rows k (Lacks (LookOf d)) kinds.Finish r p = absurd r
+frozen_reach rows k (Has i) kinds.Fetch r p = absurd r
+frozen_reach rows k (Has i) kinds.Look r p = absurd r
+frozen_reach rows k (Meets j) kinds.Fetch r p = absurd r
+frozen_reach rows k (Meets j) kinds.Look r p = absurd r
+frozen_reach rows k (Waits y) kinds.Fetch r p = absurd r
+frozen_reach rows k (Waits y) kinds.Look r p = absurd r
+frozen_reach rows k (Waits y) kinds.Finish r p = absurd r
 
 one_task : (k : Key) (x : Stage) (t u : Task) → IsTaskAt k x t → IsTaskAt k x u → t ≡ u
 one_task k (Lacks (TextOf l)) t u p q = p ∙ sym q
@@ -216,6 +230,7 @@ module _ (keys : List Entrant) (texts : List Text) (looks' : List Look) (flights
       free = λ m h. f (flies_back keys texts looks' flights s p m (task_by kind (key_named keys n)) h);
     };
     inside = inside;
+    frozen = frozen_reach (rows_of keys) (key_named keys n) the_stage kind r;
   }
 
   pub see_by : (marks marks' seen seen' : List Bool) → is_set marks n ≡ true → length keys ≤ length marks

@@ -1,9 +1,10 @@
 -- Which tasks are the same, and which are in flight.
-use Rattle.std.specs.Prelude.{◌≡◌, ◌⊎◌, ◌<◌, ◌≤◌, ◌+◌, ℕ, zero, suc, Bool, true, false, if◌then◌else◌, List, [], ◌∷◌, ◌++◌, length, map, reverse, take, All, Option, Some, None, IfSome, refl}
+use Rattle.std.specs.Prelude.{◌≡◌, ◌⊎◌, ◌<◌, ◌≤◌, ◌+◌, ℕ, zero, suc, Bool, true, false, if◌then◌else◌, List, length, map, reverse, take, Some, refl, None, Option}
 use Rattle.std.specs.Bool.{Decides}
 use Rattle.std.specs.Option.{option_map}
 use Rattle.std.proofs.Common.{ap, sym, ◌∙◌, subst, arith, get_or, inl, inr}
-use Rattle.std.proofs.lemmas.List.{take_more, take_all}
+use Rattle.std.proofs.lemmas.Bool.{false≢true}
+use Rattle.std.proofs.lemmas.List.{get_or_default, take_all}
 use Rattle.dh_syntax.specs.declared.locations.Digest.{Digest}
 use Rattle.dh_syntax.specs.declared.locations.Key.{Key}
 use Rattle.dh_syntax.specs.declared.locations.Loc.{Loc}
@@ -14,11 +15,13 @@ use Rattle.dh_syntax.specs.Imports.Machine as machine
 use Rattle.dh_syntax.specs.Imports.Machine.{Task}
 use Rattle.dh_syntax.specs.Imports.Records.{lookup}
 use Rattle.dh_syntax.proofs.Numbers.{eq-true}
-use Rattle.dh_syntax.proofs.SameTree.{Tells, locs_tell, digests_tell}
+use Rattle.dh_syntax.proofs.SameTree.{locs_tell, digests_tell}
 use Rattle.dh_laws.proofs.KeyOrder.{bool-case, none-some, some-equal, key_eq-true, key_eq-itself}
+use Rattle.dh_table.specs.declared.flights.Name.{Name}
 use Rattle.dh_table.specs.declared.steps.Flight.{Flight}
 use Rattle.dh_table.specs.declared.steps.Job.{Job}
 use Rattle.dh_table.specs.declared.texts.Entrant.{Entrant}
+use Rattle.dh_table.specs.Inside.Recording.{task_named, IsFlightOf}
 use Rattle.dh_table.specs.Inside.Searching.{Flies, IsLastOf}
 use Rattle.dh_table.specs.declared.steps.Kind.{Kind}
 use Rattle.dh_table.specs.States.{key_named, task_by, task_of, flight_of}
@@ -92,3 +95,30 @@ pub same_by : (keys : List Entrant) (a b : Job) (kind : Kind) (j k : Key) (r : B
 same_by keys a b kind j k r p q m n d =
     subst (λ t. Decides r (t ≡ task_of keys b)) (sym (ap (λ x. task_by x (key_named keys a.key)) m ∙ ap (task_by kind) p))
     (subst (λ t. Decides r (task_by kind j ≡ t)) (sym (ap (λ x. task_by x (key_named keys b.key)) n ∙ ap (task_by kind) q)) d)
+
+-- the same of a task by what it is of
+pub flight_nowhere : (keys : List Entrant) (fs : List Flight) (t : Task) (m : ℕ) (d : Flight) → length fs ≤ m → ((i : ℕ) → i < m → (x : Flight) → ¬ IsFlightOf keys fs t (get_or fs i x))
+    → (n : ℕ) → ¬ (lookup eq (reverse (map (flight_of keys) fs)) n ≡ Some t)
+flight_nowhere keys fs t m d l h n f =
+    let s = stood keys fs d (length fs) n t (omega arith) (subst (λ ys. lookup eq (reverse (map (flight_of keys) ys)) n ≡ Some t) (sym (take_all (length fs) fs (omega arith))) f) in
+    h s.0 (let a : s.0 < length fs = s.1 in omega arith) d (record { own = s.3; last = subst (λ k. lookup eq (reverse (map (flight_of keys) fs)) k ≡ Some t) (sym s.2) f })
+
+pub same_named : (keys : List Entrant) (job : Job) (kind : Kind) (j : Key) (name other : Name) (r : Bool) → key_named keys job.key ≡ j → job.kind ≡ kind → name ≡ other
+    → Decides r (task_by kind j ≡ task_named other) → Decides r (task_of keys job ≡ task_named name)
+same_named keys job kind j name other r p m q d =
+    subst (λ t. Decides r (t ≡ task_named name)) (sym (ap (λ x. task_by x (key_named keys job.key)) m ∙ ap (task_by kind) p))
+    (subst (λ x. Decides r (task_by kind j ≡ task_named x)) (sym q) d)
+
+-- a flight is not the last one of its serial and of this task
+module _ (keys : List Entrant) (fs : List Flight) (t : Task) (i : ℕ) (d e : Flight) (l : i < length fs) where
+  pub not_own : (r : Bool) → Decides r (task_of keys (get_or fs i e).job ≡ t) → r ≡ false → ¬ IsFlightOf keys fs t (get_or fs i d)
+  not_own r h p f = false≢true (sym p ∙ h.1 (ap (λ (x : Flight). task_of keys x.job) (sym (get_or_default fs i d e l)) ∙ f.own))
+
+  last_here : IsFlightOf keys fs t (get_or fs i d) → lookup eq (reverse (map (flight_of keys) fs)) (get_or fs i e).serial ≡ Some t
+  last_here f = ap (λ (x : Flight). lookup eq (reverse (map (flight_of keys) fs)) x.serial) (sym (get_or_default fs i d e l)) ∙ f.last
+
+  pub not_last : (job : Job) (r : Bool) → Decides r (task_of keys job ≡ t) → r ≡ false → option_map (task_of keys) (Some job) ≡ lookup eq (reverse (map (flight_of keys) fs)) (get_or fs i e).serial → ¬ IsFlightOf keys fs t (get_or fs i d)
+  not_last job r h p q f = false≢true (sym p ∙ h.1 (some-equal (q ∙ last_here f)))
+
+  pub not_there : option_map (task_of keys) None ≡ lookup eq (reverse (map (flight_of keys) fs)) (get_or fs i e).serial → ¬ IsFlightOf keys fs t (get_or fs i d)
+  not_there q f = none-some (sym q) (last_here f)

@@ -1,17 +1,22 @@
 -- What the calls of a table do.
-use Rattle.std.specs.Prelude.{◌≡◌, ℕ, suc, ◌+◌, ◌≤◌, Bool, true, false, List, [], ◌∷◌, ◌++◌, length, Option, Some, None, IsSome}
-use Rattle.dh_syntax.specs.Imports.Machine as machine
+use Rattle.std.specs.Prelude.{◌≡◌, ◌⊎◌, ℕ, suc, ◌+◌, ◌≤◌, Bool, true, false, if◌then◌else◌, List, [], ◌∷◌, ◌++◌, length, count_by, Option, Some, None, IsSome, ⊤}
+use Rattle.dh_syntax.specs.declared.locations.Digest.{Digest}
+use Rattle.dh_syntax.specs.declared.locations.Loc.{Loc}
 use Rattle.dh_syntax.specs.Expressions.Tree.{Term}
-use Rattle.dh_syntax.specs.Imports.Machine.{Task, State, IsOpen, InFlight, May, effect, opening}
+use Rattle.dh_syntax.specs.Imports.Machine as machine
+use Rattle.dh_syntax.specs.Imports.Machine.{Task, State, Event, IsOpen, InFlight, IsInTime, May, effect, opening}
+use Rattle.dh_syntax.specs.Imports.Records as found
 use Rattle.dh_syntax.specs.Imports.Replay.{kind_of, root_end}
 use Rattle.dh_table.specs.declared.claims.Claimed.{Claimed}
 use Rattle.dh_table.specs.declared.claims.Claimed.TheVariants as claimed
+use Rattle.dh_table.specs.declared.deliveries.Taken.{Taken}
+use Rattle.dh_table.specs.declared.deliveries.Taken.TheVariants as taken
+use Rattle.dh_table.specs.declared.news.News.{News}
 use Rattle.dh_table.specs.declared.steps.Step.{Step}
-use Rattle.dh_table.specs.declared.steps.Step.TheVariants as Step
 use Rattle.dh_table.specs.declared.tables.Ticket.{Ticket}
 use Rattle.dh_table.specs.declared.texts.Entrant.{Entrant}
 use Rattle.dh_table.specs.Shown.{Shown}
-use Rattle.dh_table.specs.States.{key_named, kind_by, state_of}
+use Rattle.dh_table.specs.States.{key_named, kind_by, news_of, state_of}
 
 -- all but the room is as it was
 abbrev pub IsSame : Shown → Shown → Type 0
@@ -98,3 +103,78 @@ pub record IsIdle (s : State) : Type 0 where
   pub undecided : root_end s ≡ None
   pub none_open : (t : Task) → ¬ IsOpen s t
   pub flies : ¬ (s.flights ≡ [])
+
+-- ---- deliveries
+
+-- the step by which news is recorded
+abbrev pub landing : ℕ → machine.News → Event
+landing serial (machine.fetched l text) = machine.Fetched serial l text
+landing serial (machine.looked d look) = machine.Looked serial d look
+landing serial (machine.finished k i limit o) = machine.Finished serial k i limit o
+
+abbrev pub landing_step : ℕ → machine.News → Step
+landing_step serial (machine.fetched l text) = Step.Fetched serial
+landing_step serial (machine.looked d look) = Step.Looked serial
+landing_step serial (machine.finished k i limit o) = Step.Finished serial
+
+-- the news is recorded, and its task is no longer in flight
+pub record Records (serial : ℕ) (news : machine.News) (old new : Shown) : Type 0 where
+  pub may : May (landing serial news) (state_of old)
+  pub state_is : state_of new ≡ effect (landing serial news) (state_of old)
+  pub adds : Adds old new (landing_step serial news ∷ [])
+
+-- n is the serial in flight for what the news names, or 0 where none is
+abbrev pub IsOwnSerial : State → machine.News → ℕ → Type 0
+IsOwnSerial s news n = IsInTime s n news ⊎ ((n ≡ 0) × ((serial : ℕ) → ¬ IsInTime s serial news))
+
+-- the table with refused news beside its step
+abbrev pub with_late : ℕ → News → Shown → ℕ → Shown
+with_late serial news t spare = record t { history = t.history ++ Step.Late serial ∷ []; refused = t.refused ++ news ∷ []; spare = spare }
+
+-- the ticket's serial is not in flight for what the news names; the news is kept beside its step, and otherwise nothing changes
+pub record Refuses (serial : ℕ) (news : News) (n : ℕ) (old new : Shown) : Type 0 where
+  pub late : ¬ IsInTime (state_of old) serial (news_of news)
+  pub own_serial : IsOwnSerial (state_of old) (news_of news) n
+  pub shown_is : new ≡ with_late serial news old new.spare
+  pub spare_falls : old.spare ≤ new.spare + 1
+
+-- what a delivery answers: news is refused exactly where its ticket's serial is not in flight for what it names
+abbrev pub Takes : Ticket → News → Shown → Shown → Taken → Type 0
+Takes ticket news old new taken.Kept = Records ticket.serial (news_of news) old new
+Takes ticket news old new (taken.Late back n) = (back ≡ ticket) × Refuses ticket.serial news n old new
+Takes ticket news old new (taken.Memory back held) = (back ≡ ticket) × (held ≡ news) × IsInTime (state_of old) ticket.serial (news_of news) × (new ≡ old)
+
+-- memory was not wanting
+abbrev pub IsTaken : Taken → Type 0
+IsTaken taken.Kept = ⊤
+IsTaken (taken.Late back n) = ⊤
+IsTaken (taken.Memory back held) = ⊥
+
+-- a root that is decided stays so
+abbrev pub StaysDecided : Shown → Shown → Type 0
+StaysDecided old new = IsSome (root_end (state_of old)) → IsSome (root_end (state_of new))
+
+-- ---- failures of devices
+
+abbrev pub has_failed : found.Noted → Bool
+has_failed found.Failed = true
+has_failed _ = false
+
+abbrev pub is_failed : found.Seen → Bool
+is_failed found.Failed = true
+is_failed _ = false
+
+-- how many recorded texts and looks are Failed
+abbrev pub failures : State → ℕ
+failures s = count_by (λ (t : Loc × found.Noted). has_failed t.1) s.recorded.texts + count_by (λ (l : Digest × found.Seen). is_failed l.1) s.recorded.looks
+
+abbrev pub brings_failure : machine.News → Bool
+brings_failure (machine.fetched l text) = has_failed text
+brings_failure (machine.looked d look) = is_failed look
+brings_failure (machine.finished k i limit o) = false
+
+-- how many failures this answer to news adds
+abbrev pub new_failures : News → Taken → ℕ
+new_failures news taken.Kept = if brings_failure (news_of news) then 1 else 0
+new_failures news (taken.Late back n) = 0
+new_failures news (taken.Memory back held) = 0

@@ -1,4 +1,8 @@
 -- Words of private clauses alone: what a reader must believe stands beside this folder.
+pub mod Due
 pub mod Entering
+pub mod Equal
 pub mod Reading
+pub mod Recording
 pub mod Searching
+pub mod Sorting

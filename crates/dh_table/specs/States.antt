@@ -1,5 +1,5 @@
 -- The state of the machine that a table is in.
-use Rattle.std.specs.Prelude.{ℕ, Bool, true, false, List, [], map, reverse, slice_index_or, Option, Some, None, Result, Ok, Err}
+use Rattle.std.specs.Prelude.{◌≡◌, IsSome, ℕ, Bool, true, false, List, [], map, reverse, slice_index_or, Option, Some, None, Result, Ok, Err}
 use Rattle.dh_syntax.specs.declared.faults.ParseFault.{ParseFault}
 use Rattle.dh_syntax.specs.declared.locations.Digest.{Digest}
 use Rattle.dh_syntax.specs.declared.locations.Key.{Key}
@@ -80,6 +80,10 @@ task_by kinds.Finish k = machine.Finish k
 
 abbrev pub task_of : List Entrant → Job → Task
 task_of ks j = task_by j.kind (key_named ks j.key)
+
+-- a look is of a key with a digest
+abbrev pub IsFrozenLook : List Entrant → Job → Type 0
+IsFrozenLook ks j = j.kind ≡ kinds.Look → IsSome (key_named ks j.key).digest
 
 abbrev pub flight_of : List Entrant → Flight → ℕ × Task
 flight_of ks f = (f.serial, task_of ks f.job)

@@ -12,13 +12,16 @@ use Rattle.dh_demand.specs.Scans.{Fits}
 use Rattle.dh_table.specs.declared.scratch.Scratch.{Scratch}
 use Rattle.dh_table.specs.declared.steps.Flight.{Flight}
 use Rattle.dh_table.specs.declared.steps.Job.{Job}
+use Rattle.dh_table.specs.declared.steps.Step.{Step}
+use Rattle.dh_table.specs.declared.steps.Step.TheVariants as steps
 use Rattle.dh_table.specs.declared.tables.Table.TheInside.{Inside}
 use Rattle.dh_table.specs.declared.texts.Entrant.{Entrant}
 use Rattle.dh_table.specs.declared.texts.Text.{Text}
 use Rattle.dh_table.specs.Inside.Entering.{AreDistinct, IsListed, keys_in}
+use Rattle.dh_table.specs.Inside.Due.{IsValued}
 use Rattle.dh_table.specs.Inside.Reading.{IsRead}
 use Rattle.dh_table.specs.Shown.{Shown}
-use Rattle.dh_table.specs.States.{IsReplayed, rows_of, state_of, text_of}
+use Rattle.dh_table.specs.States.{IsFrozenLook, IsReplayed, rows_of, state_of, text_of}
 
 abbrev pub view_of : {W : _} → Inside W → Shown
 view_of t = record {
@@ -61,15 +64,27 @@ pub record IsRoomy (keys : ℕ) (s : Scratch) : Type 0 where
   pub seen : keys ≤ length s.seen
   pub trail : length s.marks ≤ vec_capacity s.trail
 
+-- the key that a step names by its number is there
+abbrev pub IsStepNamed : ℕ → Step → Type 0
+IsStepNamed n (steps.Cycled k) = k < n
+IsStepNamed n _ = Unit {0}
+
+-- the outcomes of the keys have values, and looks in flight are of keys with digests
+pub record AreFit (keys : List Entrant) (flights : List Flight) : Type 0 where
+  pub values : All IsValued keys
+  pub looks : All (λ (f : Flight). IsFrozenLook keys f.job) flights
+
 pub record IsGood {W : _} (t : Inside W) : Type 0 where
   pub replays : IsReplayed (view_of t)
   pub flights_named : All (λ (f : Flight). f.job.key < length t.keys) t.flights.items
   pub drawn_named : All (λ (j : Job). j.key < length t.keys) t.drawn.items
   pub decided_named : All (λ (n : ℕ). n < length t.keys) t.decided.items
   pub limited_named : All (λ (n : ℕ). n < length t.keys) t.limited.items
+  pub history_named : All (IsStepNamed (length t.keys)) t.history.items
   pub owned : All IsOwned t.keys
   -- what is known of the keys is what was decided
   pub asks : outcome_of (state_of (view_of t)) ≡ ask_of (rows_of t.keys)
   pub known : IsKnown t.root t.keys t.texts.items
+  pub fit : AreFit t.keys t.flights.items
   pub scratch : IsRoomy (length t.keys) t.scratch
   pub room : vec_len t.flights ≤ (view_of t).spare

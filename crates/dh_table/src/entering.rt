@@ -9,7 +9,6 @@ ghost use Rattle.dh_table.specs.Inside.Entering.{keys_in, with_key, entered, ent
 ghost use Rattle.dh_table.specs.States.{rows_of};
 
 use crate::entrants::Entrants;
-use crate::numbers::number;
 use crate::texts::Entrant;
 use dh_demand::{Edge, Edges};
 use dh_paths::{loc_text, sane};
@@ -79,7 +78,7 @@ fn add(
     ensures number { IfOk result (λ n. number_of (rows_of keys.new) key.now ≡ Some n) }
     ensures same { OnErr result (keys.new ≡ keys.old) }
 {
-    if let Some(number) = number(keys.as_slice(), key) {
+    if let Some(number) = keys.number(key) {
         return Ok(number);
     }
     let at = keys.len();

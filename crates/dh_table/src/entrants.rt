@@ -1,9 +1,13 @@
 //! The keys of a table, by their numbers.
 
-ghost use Rattle.std.specs.Prelude.{◌≡◌, ◌<◌, ◌++◌, ◌∷◌, [], length, take, slice_index_or, OnOk, OnErr};
+ghost use Rattle.std.specs.Prelude.{◌≡◌, ◌<◌, ◌++◌, ◌∷◌, ◌^◌, [], None, length, take, slice_index_or, OnOk, OnErr};
+ghost use Rattle.dh_demand.specs.Results.{number_of};
 ghost use Rattle.dh_table.specs.Inside.Entering.{decided_at};
-ghost use Rattle.dh_table.specs.States.{nobody};
+ghost use Rattle.dh_table.specs.States.{nobody, rows_of};
 
+use crate::probes::KeyProbe;
+use crate::sorting::Order;
+use crate::tables::put;
 use crate::texts::Entrant;
 use dh_demand::Results;
 use dh_syntax::{Blame, Key, Outcome, Why};
@@ -14,19 +18,24 @@ use std::marker::Model;
 #[derive(Debug, Drop)]
 pub struct Entrants {
     rows: Vec<Entrant>,
+    // their numbers in the order of the keys
+    order: Order,
 }
 
 impl Model for Entrants {
     ghost use Rattle.dh_syntax.specs.contracts.expressions.Expr as e;
     ghost use Rattle.std.specs.Coded.{codes};
-    ghost use Rattle.std.specs.Prelude.{List};
+    ghost use Rattle.std.specs.Prelude.{List, map};
     ghost use Rattle.dh_table.specs.declared.texts.Entrant.{Entrant};
+    ghost use Rattle.dh_table.specs.Inside.Sorting.{IsOrder, rank_of_entrant};
 
     ghost Value = { List Entrant };
 
     ghost coded = { Prim.hlevel (codes, e.the_row.coded) };
 
     ghost view = { λ a. a.rows.items };
+
+    ghost invariant = { λ a. IsOrder (map rank_of_entrant a.rows.items) a.order.numbers.items };
 }
 
 impl Entrants {
@@ -36,6 +45,7 @@ impl Entrants {
     {
         Entrants {
             rows: Vec::new(alloc),
+            order: Order::new(alloc),
         }
     }
 
@@ -53,12 +63,28 @@ impl Entrants {
         self.rows.as_slice()
     }
 
-    /// Adds a key. Where memory is wanting the keys stay as they were.
+    /// The number of a key, where it is there.
+    pub fn number(&self, key: &Key) -> Option<u32>
+        ensures { result ≡ number_of (rows_of self.now) key.now }
+    {
+        let rows = self.rows.as_slice();
+        self.order.find(&KeyProbe { rows, key })
+    }
+
+    /// Adds a new key. Where memory is wanting the keys stay as they were.
     pub fn push(&mut self, entrant: Entrant) -> Result<(), AllocError>
+        requires new { number_of (rows_of self.old) entrant.key ≡ None }
+        requires few { length self.old < 2 ^ 32 }
         ensures ok { OnOk result (self.new ≡ self.old ++ entrant ∷ []) }
         ensures err { OnErr result (self.new ≡ self.old) }
     {
-        self.rows.push(entrant)?;
+        self.order.reserve()?;
+        self.rows.reserve(1)?;
+        let number = self.rows.len() as u32;
+        let rows = self.rows.as_slice();
+        let key = &entrant.key;
+        self.order.insert(&KeyProbe { rows, key }, number);
+        put(&mut self.rows, entrant);
         Ok(())
     }
 
@@ -89,6 +115,7 @@ impl Entrants {
     pub fn truncate(&mut self, len: usize)
         ensures { self.new ≡ take len self.old }
     {
+        self.order.truncate(len);
         self.rows.truncate(len);
     }
 }

@@ -1,7 +1,10 @@
 //! Cache entries.
 
 ghost use Rattle.std.specs.Prelude.{◌≡◌};
+ghost use Rattle.dh_syntax.specs.Expressions.Arity.{IsWellFormed};
+ghost use Rattle.dh_syntax.specs.Expressions.Bridge.{term};
 ghost use Rattle.dh_table.specs.Entries.{IsGoodEntry};
+ghost use Rattle.dh_table.specs.Values.{IsValue};
 
 use dh_syntax::{Bytes, Digest, Expr};
 use std::marker::Model;
@@ -17,6 +20,8 @@ pub struct Entry {
 impl Model for Entry {
     ghost use Rattle.dh_syntax.specs.contracts.expressions.Expr as e;
     ghost use Rattle.std.specs.Coded.{codes};
+    ghost use Rattle.dh_syntax.specs.Expressions.Arity.{IsWellFormed};
+    ghost use Rattle.dh_syntax.specs.Expressions.Bridge.{term};
     ghost use Rattle.dh_table.specs.Entries.{EntryParts, IsGoodEntry};
 
     ghost Value = { EntryParts };
@@ -25,13 +30,14 @@ impl Model for Entry {
 
     ghost view = { λ a. record { digest = a.digest; bytes = a.bytes; expr = a.expr } };
 
-    ghost invariant = { λ a. IsGoodEntry a.digest a.bytes a.expr };
+    ghost invariant = { λ a. IsGoodEntry a.digest a.bytes a.expr × IsWellFormed (term a.expr) };
 }
 
 impl Entry {
     /// The entry with these parts, which are those of a good one.
     pub fn of(digest: Digest, bytes: Bytes, expr: Expr) -> Entry
-        requires { IsGoodEntry digest bytes expr }
+        requires good { IsGoodEntry digest bytes expr }
+        requires well_formed { IsWellFormed (term expr) }
         ensures { result ≡ record { digest = digest; bytes = bytes; expr = expr } }
     {
         Entry {
@@ -66,6 +72,13 @@ impl Entry {
         ensures { IsGoodEntry self.now.digest self.now.bytes self.now.expr }
     {
         let _bytes = &self.bytes;
+    }
+
+    /// Its expression is a value.
+    pub fn is_value(&self)
+        ensures { IsValue (term self.now.expr) }
+    {
+        let _expr = &self.expr;
     }
 }
 

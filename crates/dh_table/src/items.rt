@@ -2,6 +2,7 @@
 
 ghost use Rattle.std.specs.Prelude.{◌≡◌, true, false};
 ghost use Rattle.dh_table.specs.Items.{IsLast};
+ghost use Rattle.dh_table.specs.Values.{HasValue};
 
 use dh_syntax::{Blame, Bytes, Expr, Key, Loc, Origin, Outcome};
 use std::marker::Model;
@@ -59,16 +60,18 @@ impl Model for Done {
     ghost coded = { Prim.hlevel (codes, e.the_row.coded) };
 
     ghost use Rattle.dh_table.specs.Items.{IsLast};
+    ghost use Rattle.dh_table.specs.Values.{HasValue};
 
     ghost view = { λ a. record { item = a.item; outcome = a.outcome; limited = a.limited } };
 
-    ghost invariant = { λ a. IsLast a.item a.outcome a.limited };
+    ghost invariant = { λ a. IsLast a.item a.outcome a.limited × HasValue a.outcome };
 }
 
 impl Done {
     /// What the last step gives on an item.
     pub fn of(item: Item, outcome: Outcome) -> Done
-        requires { IsLast item outcome false }
+        requires last { IsLast item outcome false }
+        requires value { HasValue outcome }
         ensures { result ≡ record { item = item; outcome = outcome; limited = false } }
     {
         Done {
@@ -90,6 +93,19 @@ impl Done {
         }
     }
 
+    pub fn item(&self) -> &Item
+        ensures { result.now ≡ self.now.item }
+    {
+        &self.item
+    }
+
+    /// Whether the outcome is a limit.
+    pub fn is_limit(&self) -> bool
+        ensures { result ≡ self.now.limited }
+    {
+        self.limited
+    }
+
     pub fn outcome(&self) -> &Outcome
         ensures { result.now ≡ self.now.outcome }
     {
@@ -105,6 +121,13 @@ impl Done {
             limited: _,
         } = self;
         outcome
+    }
+
+    /// The value of its outcome, where it has one, is a value.
+    pub fn has_value(&self)
+        ensures { HasValue self.now.outcome }
+    {
+        let _outcome = &self.outcome;
     }
 
     /// The outcome is that of the last step on the item, or a limit that is licensed for it.

@@ -5,34 +5,47 @@
 //! definitions, and the table's type keeps that its history leads to its state.
 #![tactic(auto)]
 
+mod blames;
 mod claims;
+mod deliveries;
+mod due_items;
 mod entering;
 mod entrants;
 mod entries;
+mod equality;
+mod flights;
 mod items;
 mod lookups;
 mod loops;
 mod news;
-mod numbers;
 mod opening;
 mod orders;
+mod own_items;
 mod plans;
+mod probes;
 mod queries;
+mod recording;
+mod roots;
 mod sameness;
 mod scratch;
 mod searches;
+mod sorting;
 mod steps;
 mod tables;
 mod texts;
 mod visits;
+mod works;
 
 pub use claims::Claimed;
+pub use deliveries::Taken;
 pub use entries::{Entry, Seen};
 pub use items::{Body, Done, Item};
 pub use news::{News, Noted, Parsed};
 pub use opening::OpenFault;
+pub use roots::Ended;
 pub use steps::{Kind, Step};
 pub use tables::{Table, Ticket};
+pub use works::Work;
 
 #[cfg(test)]
 mod tests;

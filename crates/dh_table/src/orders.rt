@@ -20,8 +20,8 @@ pub(crate) fn is_at_most(j: &Entrant, k: &Entrant) -> bool
     !(is_before(&k.text, &j.text) || is_same(&k.text, &j.text) && is_key_before(&k.key, &j.key))
 }
 
-// Whether a key comes before another one whose location has the same text.
-fn is_key_before(j: &Key, k: &Key) -> bool
+/// Whether a key comes before another one whose location has the same text.
+pub(crate) fn is_key_before(j: &Key, k: &Key) -> bool
     ensures { result ≡ texts_before ((mode_code j.now.mode ∷ []) ∷ digest_rank j.now.digest ∷ loc_rank j.now.loc) ((mode_code k.now.mode ∷ []) ∷ digest_rank k.now.digest ∷ loc_rank k.now.loc) }
 {
     is_mode_before(j.mode, k.mode) || is_same_mode(j.mode, k.mode) && is_frozen_before(j, k)

@@ -1,6 +1,6 @@
 //! What a table tells.
 
-ghost use Rattle.std.specs.Prelude.{◌≡◌, ◌↔◌, ◌≤◌, ◌<◌, [], IsTrue, None, length, false};
+ghost use Rattle.std.specs.Prelude.{◌≡◌, ◌-◌, ◌↔◌, vec_len, vec_capacity, ◌≤◌, ◌<◌, [], IsTrue, None, length, false};
 ghost use Rattle.std.specs.Option.{option_copied, option_map};
 ghost use Rattle.dh_syntax.specs.Imports.Machine.{Task, IsOpen, outcome_of};
 ghost use Rattle.dh_syntax.specs.Imports.Outcomes.{plain};
@@ -8,12 +8,28 @@ ghost use Rattle.dh_syntax.specs.Imports.Replay.{distinct, keys, root_end};
 ghost use Rattle.dh_table.specs.Calls.{IsIdle};
 ghost use Rattle.dh_table.specs.States.{state_of};
 
-use crate::numbers::number;
 use crate::tables::Table;
 use dh_demand::Results;
 use dh_syntax::{Key, Outcome};
 
+// For how many more elements there is room.
+fn room_of<T>(v: &Vec<T>) -> usize
+    ensures { result ≡ vec_capacity v.now - vec_len v.now }
+{
+    v.capacity().saturating_sub(v.len())
+}
+
 impl<W> Table<W> {
+    /// For how many more steps there is room. It takes no memory.
+    pub fn spare(&self) -> usize
+        ensures { result ≡ self.now.spare }
+    {
+        let flights = room_of(&self.flights).min(room_of(&self.drawn));
+        let steps = room_of(&self.history).min(room_of(&self.refused));
+        let decided = room_of(&self.decided).min(room_of(&self.limited));
+        flights.min(steps).min(decided)
+    }
+
     /// How many keys the root and the recorded texts name, each counted once, with those without their digests.
     pub fn key_count(&self) -> usize
         ensures { result ≡ length (distinct (keys (state_of self.now))) }
@@ -25,7 +41,7 @@ impl<W> Table<W> {
     pub fn result(&self, key: &Key) -> Option<&Outcome>
         ensures { option_map plain (option_copied result) ≡ outcome_of (state_of self.now) key.now }
     {
-        match number(self.keys.as_slice(), key) {
+        match self.keys.number(key) {
             Some(number) => self.keys.outcome(number),
             None => None,
         }

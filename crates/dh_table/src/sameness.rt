@@ -1,6 +1,6 @@
 //! Which tasks are in flight.
 
-ghost use Rattle.std.specs.Prelude.{◌≡◌, ◌<◌, ◌≤◌, ℕ, List, All, IfSome, MatchBool, length, map, reverse};
+ghost use Rattle.std.specs.Prelude.{◌≡◌, ◌<◌, ◌≤◌, ℕ, List, All, IfSome, MatchBool, length, map, reverse, Contains};
 ghost use Rattle.std.specs.Bool.{Decides};
 ghost use Rattle.std.specs.Option.{option_map};
 ghost use Rattle.dh_syntax.specs.Expressions.Numbers.{eq};
@@ -62,7 +62,8 @@ fn digest_bytes(digest: &Option<Digest>) -> &[u8]
     }
 }
 
-fn is_same_digest(d: &Option<Digest>, e: &Option<Digest>) -> bool
+/// Whether two digests have the same bytes; no digest has none.
+pub(crate) fn is_same_digest(d: &Option<Digest>, e: &Option<Digest>) -> bool
     ensures { result ≡ digest_eq (digest_or_none d.now) (digest_or_none e.now) }
 {
     digest_bytes(d) == digest_bytes(e)
@@ -72,6 +73,7 @@ fn is_same_digest(d: &Option<Digest>, e: &Option<Digest>) -> bool
 pub(crate) fn job_of(flights: &[Flight], serial: u64) -> Option<Job>
     ensures task { (keys : List Entrant) → option_map (task_of keys) result ≡ lookup eq (reverse (map (flight_of keys) flights.now)) serial }
     ensures inside { (n : ℕ) → All (λ (f : Flight). f.job.key < n) flights.now → IfSome result (λ j. j.key < n) }
+    ensures among { IfSome result (λ j. (f : Flight) × Contains flights.now f × (f.job ≡ j)) }
 {
     let mut found = None;
     for flight in flights {

@@ -3,9 +3,9 @@
 ghost use Rattle.std.specs.Prelude.{◌≡◌, ◌+◌, ◌≤◌, ◌<◌, ◌++◌, ◌∷◌, [], suc, length, None, IsOk, OnOk, vec_len, vec_capacity};
 ghost use Rattle.dh_syntax.specs.Imports.Machine as machine;
 ghost use Rattle.dh_syntax.specs.Imports.Machine.{Task, IsOpen, root_walk, InFlight, IsInTime, May, effect};
-ghost use Rattle.dh_table.specs.Calls.{Adds, IsSame, Releases};
+ghost use Rattle.dh_table.specs.Calls.{Adds, IsSame, Releases, with_late};
 ghost use Rattle.dh_demand.specs.Nexts.{IsNext, IsInside};
-ghost use Rattle.dh_table.specs.States.{rows_of, key_named, state_of, task_of, news_of};
+ghost use Rattle.dh_table.specs.States.{IsFrozenLook, rows_of, key_named, state_of, task_of, news_of};
 
 use crate::entrants::Entrants;
 use crate::news::News;
@@ -21,7 +21,7 @@ use std::marker::{Model, PhantomData};
 /// The right to deliver or to release one task.
 #[derive(Debug, Drop)]
 pub struct Ticket {
-    serial: u64,
+    pub(crate) serial: u64,
     kind: Kind,
 }
 
@@ -71,6 +71,15 @@ pub(crate) fn put<T: Drop>(v: &mut Vec<T>, x: T)
     let Ok(()) = v.push(x) else { unreachable!() };
 }
 
+impl Ticket {
+    /// Of which kind its task is.
+    pub fn kind(&self) -> Kind
+        ensures { result ≡ self.now.kind }
+    {
+        self.kind
+    }
+}
+
 impl<W> Table<W> {
     /// The steps so far.
     pub fn history(&self) -> &[Step]
@@ -115,6 +124,7 @@ impl<W> Table<W> {
     pub(crate) fn draw(&mut self, worker: u32, job: Job) -> Ticket
         requires open { IsOpen (state_of self.old) (task_of self.old.keys job) }
         requires named { job.key < length self.old.keys }
+        requires frozen { IsFrozenLook self.old.keys job }
         requires room { length self.old.flights + 2 ≤ self.old.spare }
         ensures serial { result.serial ≡ suc (length self.old.drawn) }
         ensures kind { result.kind ≡ job.kind }
@@ -152,12 +162,11 @@ impl<W> Table<W> {
     }
 
     // The step that keeps news that came too late.
-    fn refuse(&mut self, serial: u64, news: News)
+    pub(crate) fn refuse(&mut self, serial: u64, news: News)
         requires late { ¬ IsInTime (state_of self.old) serial (news_of news) }
         requires room { length self.old.flights + 1 ≤ self.old.spare }
-        ensures state { state_of self.new ≡ state_of self.old }
-        ensures keys { self.new.keys ≡ self.old.keys }
-        ensures adds { Adds self.old self.new (Step.Late serial ∷ []) }
+        ensures shown { self.new ≡ with_late serial news self.old self.new.spare }
+        ensures spare { self.old.spare ≤ self.new.spare + 1 }
     {
         put(&mut self.refused, news);
         put(&mut self.history, Step::Late { serial });

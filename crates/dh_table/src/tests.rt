@@ -1,16 +1,29 @@
-//! Tests: a root without imports, two imports of one key, a task that is put back, and a frozen key.
+//! Tests: a root without imports, two imports of one key, a task that is put back, a frozen key, and news that is recorded or
+//! comes too late.
+
+ghost use Rattle.std.specs.Prelude.{◌≡◌, None, IfOk};
+ghost use Rattle.dh_syntax.specs.declared.expressions.Op.TheVariants as ops;
+ghost use Rattle.dh_syntax.specs.Expressions.Bridge.{term};
+ghost use Rattle.dh_syntax.specs.Expressions.Tree.{Node, end};
+ghost use Rattle.dh_table.specs.Brought.{BringsText, BringsOutcome};
 
 use super::*;
-use dh_ports::Silent;
-use dh_syntax::{BoxedImport, Digest, Expr, Import, Kid, Loc, Many, Mode, Op, Piece};
+use dh_ports::{Found, Got, Silent};
+use dh_syntax::{
+    BoxedImport, Bytes, Digest, Expr, Import, Key, Kid, Loc, Many, Mode, Op, Origin, Outcome, Piece,
+};
 use std::alloc::{AllocError, Global};
 use std::test::Fail;
 
-fn import(alloc: Global, file: &str, digest: Option<Digest>) -> Result<Kid, AllocError> {
+fn here(alloc: Global, file: &str) -> Result<Loc, AllocError> {
     let mut comps = Many::new(alloc);
     comps.push(Piece::new(alloc, file)?)?;
+    Ok(Loc::Here(comps))
+}
+
+fn import(alloc: Global, file: &str, digest: Option<Digest>) -> Result<Kid, AllocError> {
     let import = Import {
-        loc: Loc::Here(comps),
+        loc: here(alloc, file)?,
         mode: Mode::Code,
         digest,
     };
@@ -68,6 +81,76 @@ fn frozen(alloc: Global) -> Result<Expr, AllocError> {
     let mut kids = Many::new(alloc);
     kids.push(import(alloc, "a", Some(Digest([7; 32])))?)?;
     Ok(Expr::Node(Op::List, kids))
+}
+
+/// The expression `1`.
+fn one(alloc: Global) -> Expr
+    ensures { term result ≡ Node (ops.Nat 1) end }
+{
+    Expr::Node(Op::Nat(1), Many::new(alloc))
+}
+
+/// The table of the root `./a`.
+fn importing(alloc: Global) -> Result<Table<Silent>, AllocError> {
+    let Kid { binder: _, body } = import(alloc, "a", None)?;
+    opened(alloc, body)
+}
+
+/// The text `1` of `./a`.
+fn one_fetched(alloc: Global) -> Result<News, AllocError>
+    ensures { IfOk result (BringsText (λ _. None)) }
+{
+    let loc = here(alloc, "a")?;
+    let bytes = Bytes::of(Vec::from_slice(alloc, b"1")?);
+    let got = Noted::Got(Got::Found(Found { bytes, allow: None }));
+    let scan = Some(Parsed::Good {
+        expr: one(alloc),
+        keys: Many::new(alloc),
+    });
+    Ok(News::Fetched { loc, got, scan })
+}
+
+/// The value `1` of `./a`.
+fn one_finished(alloc: Global) -> Result<News, AllocError>
+    ensures { IfOk result BringsOutcome }
+{
+    let key = Key {
+        loc: here(alloc, "a")?,
+        mode: Mode::Code,
+        digest: None,
+    };
+    let item = Item {
+        key,
+        allow: None,
+        body: Body::Code(one(alloc)),
+    };
+    let outcome = Outcome::Good {
+        value: one(alloc),
+        origin: Origin::Fetched(None),
+    };
+    Ok(News::Finished(Done::of(item, outcome)))
+}
+
+/// Delivers a text, with the room that it needs.
+fn fetched(table: &mut Table<Silent>, ticket: Ticket, news: News) -> Result<Taken, AllocError>
+    requires { BringsText (λ _. None) news }
+{
+    let Some(room) = table.in_flight().checked_add(1) else {
+        return Err(AllocError);
+    };
+    table.reserve(room)?;
+    Ok(table.fetched(ticket, news))
+}
+
+/// Delivers an outcome, with the room that it needs.
+fn finished(table: &mut Table<Silent>, ticket: Ticket, news: News) -> Result<Taken, AllocError>
+    requires { BringsOutcome news }
+{
+    let Some(room) = table.in_flight().checked_add(1) else {
+        return Err(AllocError);
+    };
+    table.reserve(room)?;
+    Ok(table.finished(ticket, news))
 }
 
 /// Whether a claim finds the root decided.
@@ -138,5 +221,50 @@ fn a_frozen_key_is_looked_up_first(rt: HostRuntime) -> Result<(), Fail> {
         serial: 1,
     }];
     assert!(rt; table.history() == wanted.as_slice());
+    Ok(())
+}
+
+#[test]
+fn a_text_is_recorded_and_its_key_finished(rt: HostRuntime) -> Result<(), Fail> {
+    let alloc = rt.alloc();
+    let mut table = importing(alloc)?;
+    let ticket = task(&mut table, 1)?;
+    let waited = is_waiting(&mut table)?;
+    assert!(rt; waited);
+    let taken = fetched(&mut table, ticket, one_fetched(alloc)?)?;
+    assert!(rt; matches!(taken, Taken::Kept));
+    let ticket = task(&mut table, 2)?;
+    let taken = finished(&mut table, ticket, one_finished(alloc)?)?;
+    assert!(rt; matches!(taken, Taken::Kept));
+    let decided = is_decided(&mut table)?;
+    assert!(rt; decided);
+    let wanted = [
+        Step::Claim {
+            worker: 1,
+            kind: Kind::Fetch,
+            serial: 1,
+        },
+        Step::Fetched { serial: 1 },
+        Step::Claim {
+            worker: 2,
+            kind: Kind::Finish,
+            serial: 2,
+        },
+        Step::Finished { serial: 2 },
+    ];
+    assert!(rt; table.history() == wanted.as_slice());
+    Ok(())
+}
+
+#[test]
+fn news_on_the_ticket_of_another_table_is_late(rt: HostRuntime) -> Result<(), Fail> {
+    let alloc = rt.alloc();
+    let mut table = importing(alloc)?;
+    let mut other = importing(alloc)?;
+    let ticket = task(&mut table, 1)?;
+    let taken = fetched(&mut other, ticket, one_fetched(alloc)?)?;
+    assert!(rt; matches!(taken, Taken::Late(_, 0)));
+    let wanted = [Step::Late { serial: 1 }];
+    assert!(rt; other.history() == wanted.as_slice());
     Ok(())
 }

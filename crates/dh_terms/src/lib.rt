@@ -30,7 +30,7 @@ pub use cores::{Core, CoreKid, CoreKids};
 pub use equality::{is_same_key, is_same_loc, is_same_op};
 pub use free_variables::free;
 pub use nameless::{from_core, to_core};
-pub use sameness::same;
+pub use sameness::{is_same_binder, is_same_expr, same};
 pub use shifting::shift;
 pub use substitution::subst;
 

@@ -28,7 +28,7 @@ pub fn same(alloc: Global, a: &Expr, b: &Expr) -> Result<bool, AllocError>
 }
 
 /// Whether the two binders, where they are there, have one name.
-fn is_same_binder(x: &Option<Label>, y: &Option<Label>) -> bool
+pub fn is_same_binder(x: &Option<Label>, y: &Option<Label>) -> bool
     ensures { result ≡ option_eq bytes_eq x.now y.now }
 {
     match (x, y) {
@@ -40,7 +40,7 @@ fn is_same_binder(x: &Option<Label>, y: &Option<Label>) -> bool
 
 /// Whether the two expressions are equal.
 #[cycle(same_expr)]
-fn is_same_expr(a: &Expr, b: &Expr) -> bool
+pub fn is_same_expr(a: &Expr, b: &Expr) -> bool
     ensures { result ≡ term_eq (term a.now) (term b.now) }
 {
     match (a, b) {

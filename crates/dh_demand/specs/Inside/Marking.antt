@@ -1,8 +1,8 @@
 -- Marks of keys that a walk asks.
-use Rattle.std.specs.Prelude.{◌≡◌, ℕ, Bool, true, List, [], ◌∷◌, Option, Some, None, slice_set}
+use Rattle.std.specs.Prelude.{◌≡◌, ◌||◌, ℕ, Bool, true, List, [], ◌∷◌, filter, Option, Some, None, is_none, slice_set}
 use Rattle.dh_syntax.specs.declared.locations.Key.{Key}
 use Rattle.dh_syntax.specs.declared.locations.Loc.{Loc}
-use Rattle.dh_syntax.specs.Imports.Walk.{Fails, Turns, Ending, Goes, Stops, Circles, Course, else_by, all_courses, undecided}
+use Rattle.dh_syntax.specs.Imports.Walk.{Fails, Turns, Ending, Goes, Stops, Circles, Course, else_by, all_courses, Ask}
 use Rattle.dh_demand.specs.declared.ends.Next.{Next}
 use Rattle.dh_demand.specs.declared.ends.Next.TheVariants as next
 use Rattle.dh_demand.specs.Nexts.{ComesTo}
@@ -24,10 +24,14 @@ IsEnd parent rows (Stops b) (next.Fault e) = ComesTo parent rows e (Fails b)
 IsEnd parent rows Circles (next.Fault e) = (j : Key) × ComesTo parent rows e (Turns j)
 IsEnd parent rows _ _ = ⊥
 
--- after a course the keys that it asks and that have no outcome are marked
-pub record Wanting (parent : Option Loc) (rows : List Row) (c : Course) (before : List Bool) (n : Next) (marks : List Bool) : Type 0 where
+-- all of these keys, or those without an outcome
+abbrev pub picked : Bool → Ask → List Key → List Key
+picked all ask ks = filter (λ k. all || is_none (ask k)) ks
+
+-- after a course the keys that it asks are marked: all, or those without an outcome
+pub record Wanting (all : Bool) (parent : Option Loc) (rows : List Row) (c : Course) (before : List Bool) (n : Next) (marks : List Bool) : Type 0 where
   pub end : IsEnd parent rows c.ending n
-  pub marks_are : marks ≡ marked rows (undecided (ask_of rows) c.asked) before
+  pub marks_are : marks ≡ marked rows (picked all (ask_of rows) c.asked) before
 
 abbrev pub nothing_asked : Course
 nothing_asked = record { asked = []; ending = Goes }

@@ -5,7 +5,6 @@ use Rattle.dh_syntax.specs.declared.locations.Key.{Key}
 use Rattle.dh_syntax.specs.declared.locations.Loc.{Loc}
 use Rattle.dh_syntax.specs.Expressions.Bridge.{term}
 use Rattle.dh_syntax.specs.Expressions.Tree.{Term}
-use Rattle.dh_syntax.specs.Imports.Keys.{bare}
 use Rattle.dh_syntax.specs.Imports.Records as found
 use Rattle.dh_syntax.specs.Imports.Records.{Record}
 use Rattle.dh_syntax.specs.Imports.Resolver.{TextOf, LookOf, Unknown, Now, Walks, Asks, Lacks, Has, Meets, Waits, Stage}

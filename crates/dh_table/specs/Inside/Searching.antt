@@ -1,16 +1,13 @@
 -- The search for an open task.
 use Rattle.std.specs.Prelude.{◌≡◌, ◌⊎◌, ◌<◌, ℕ, Bool, true, false, if◌then◌else◌, sum_by, List, [], length, map, reverse, slice_index_or, Option, Some, None}
 use Rattle.dh_syntax.specs.declared.locations.Key.{Key}
-use Rattle.dh_syntax.specs.Expressions.Bridge.{term}
 use Rattle.dh_syntax.specs.Expressions.Numbers.{eq}
 use Rattle.dh_syntax.specs.Imports.Machine as machine
 use Rattle.dh_syntax.specs.Imports.Machine.{IsAmong, Task, State, IsOpen, Wanted, Blocks, Cycled, May, effect, leads_to, outcome_of, root_walk, stage_of}
 use Rattle.dh_syntax.specs.Imports.Records.{lookup}
 use Rattle.dh_syntax.specs.Imports.Resolver.{TextOf, LookOf, Lacks, Has, Meets, Waits, Stage}
 use Rattle.dh_syntax.specs.Imports.Walk.{Turns, wants}
-use Rattle.dh_demand.specs.declared.scans.Scan.{Scan}
 use Rattle.dh_demand.specs.Results.{ask_of}
-use Rattle.dh_demand.specs.Wants.{HasNumber}
 use Rattle.dh_demand.specs.Results.{number_of}
 use Rattle.dh_table.specs.declared.searches.Pass.{Pass}
 use Rattle.dh_table.specs.declared.searches.Pass.TheVariants as passes
@@ -19,7 +16,7 @@ use Rattle.dh_table.specs.declared.steps.Job.{Job}
 use Rattle.dh_table.specs.declared.texts.Entrant.{Entrant}
 use Rattle.dh_table.specs.declared.texts.Look.{Look}
 use Rattle.dh_table.specs.declared.texts.Text.{Text}
-use Rattle.dh_table.specs.States.{rows_of, key_named, task_of, flight_of, text_of, look_of}
+use Rattle.dh_table.specs.States.{IsFrozenLook, rows_of, key_named, task_of, flight_of, text_of, look_of}
 
 -- the state has these keys, texts, looks and flights
 pub record Stands (keys : List Entrant) (texts : List Text) (looks : List Look) (flights : List Flight) (s : State) : Type 0 where
@@ -73,6 +70,7 @@ IsStill marks seen = (n : ℕ) → is_set marks n ≡ true → is_set seen n ≡
 pub record IsJob (s : State) (keys : List Entrant) (j : Job) : Type 0 where
   pub open_task : IsOpen s (task_of keys j)
   pub inside : j.key < length keys
+  pub frozen : IsFrozenLook keys j
 
 abbrev pub IsFound : State → List Entrant → Option Job → Type 0
 IsFound s keys (Some j) = IsJob s keys j

@@ -15,7 +15,7 @@ use Rattle.dh_demand.proofs.wants.+want.Goals as goal
 pub want_in-returns-in-Var-clause-wants : goal.want_in-returns-in-Var-clause-wants
 want_in-returns-in-Var-clause-wants g t c b d first h =
     let ready : c.args.before ≡ next.Ready = search rules in
-    want_goes _ _ d _ first _ _ c.args.before _ h ready (want_variable _ _ c.args.e.now c.in-Var.field-0 c.in-Var.field-1 _ c.in-Var.is)
+    want_goes c.args.all _ _ d _ first _ _ c.args.before _ h ready (want_variable c.args.all _ _ c.args.e.now c.in-Var.field-0 c.in-Var.field-1 _ c.in-Var.is)
 
 pub want_in-returns-in-Var-clause-rest : goal.want_in-returns-in-Var-clause-rest
 want_in-returns-in-Var-clause-rest g t c = skip_variable c.args.e.now c.in-Var.field-0 c.in-Var.field-1 _ c.in-Var.is
@@ -23,8 +23,8 @@ want_in-returns-in-Var-clause-rest g t c = skip_variable c.args.e.now c.in-Var.f
 pub want_in-returns-in-Import-clause-wants : goal.want_in-returns-in-Import-clause-wants
 want_in-returns-in-Import-clause-wants g t c b d first h =
     let ready : c.args.before ≡ next.Ready = search rules in
-    want_goes _ _ d _ first _ _ c.args.before _ h ready
-    (want_node _ _ c.args.e.now c.in-Node.op c.in-Node.kids _ _ _ _ c.in-Node.is c.in-Import.ensures c.want_import-next.ensures.wants b)
+    want_goes c.args.all _ _ d _ first _ _ c.args.before _ h ready
+    (want_node c.args.all _ _ c.args.e.now c.in-Node.op c.in-Node.kids _ _ _ _ c.in-Node.is c.in-Import.ensures c.want_import-next.ensures.wants b)
 
 pub want_in-returns-in-Import-clause-rest : goal.want_in-returns-in-Import-clause-rest
 want_in-returns-in-Import-clause-rest g t c =
@@ -33,8 +33,8 @@ want_in-returns-in-Import-clause-rest g t c =
 pub want_in-returns-then-len-eq2-clause-wants : goal.want_in-returns-then-len-eq2-clause-wants
 want_in-returns-then-len-eq2-clause-wants g t c b d first h =
     let ready : c.args.before ≡ next.Ready = search rules in
-    want_goes _ _ d _ first _ _ c.args.before _ h ready
-    (as_course _ _ _ _ _ _ _ (choice_node _ _ c.args.e.now c.in-Node.op c.in-Node.kids c.in-Node.is c.in-Choice.ensures)
+    want_goes c.args.all _ _ d _ first _ _ c.args.before _ h ready
+    (as_course c.args.all _ _ _ _ _ _ _ (choice_node _ _ c.args.e.now c.in-Node.op c.in-Node.kids c.in-Node.is c.in-Choice.ensures)
     (c.want_choice.ensures.wants (as_begins _ _ _ _ _ (choice_keys _ c.args.e.now c.in-Node.op c.in-Node.kids c.in-Node.is c.in-Choice.ensures) b)))
 
 pub want_in-returns-then-len-eq2-clause-rest : goal.want_in-returns-then-len-eq2-clause-rest
@@ -43,9 +43,9 @@ want_in-returns-then-len-eq2-clause-rest g t c = choice_rest c.args.e.now c.in-N
 pub want_in-returns-else-len-eq2-clause-wants : goal.want_in-returns-else-len-eq2-clause-wants
 want_in-returns-else-len-eq2-clause-wants g t c b d first h =
     let ready : c.args.before ≡ next.Ready = search rules in
-    want_goes _ _ d _ first _ _ c.args.before _ h ready
-    (as_course _ _ _ _ _ _ _ (choice_node _ _ c.args.e.now c.in-Node.op c.in-Node.kids c.in-Node.is c.in-Choice.ensures)
-    (as_course _ _ _ _ _ _ _ (sym (no_choice_course _ _ c.in-Node.kids (λ e. search rules)))
+    want_goes c.args.all _ _ d _ first _ _ c.args.before _ h ready
+    (as_course c.args.all _ _ _ _ _ _ _ (choice_node _ _ c.args.e.now c.in-Node.op c.in-Node.kids c.in-Node.is c.in-Choice.ensures)
+    (as_course c.args.all _ _ _ _ _ _ _ (sym (no_choice_course _ _ c.in-Node.kids (λ e. search rules)))
     (c.want_in_kids.ensures.wants (as_begins _ _ _ _ _ (choice_keys _ c.args.e.now c.in-Node.op c.in-Node.kids c.in-Node.is c.in-Choice.ensures) b))))
 
 pub want_in-returns-else-len-eq2-clause-rest : goal.want_in-returns-else-len-eq2-clause-rest
@@ -54,8 +54,8 @@ want_in-returns-else-len-eq2-clause-rest g t c = choice_rest c.args.e.now c.in-N
 pub want_in-returns-in-Other-clause-wants : goal.want_in-returns-in-Other-clause-wants
 want_in-returns-in-Other-clause-wants g t c b d first h =
     let ready : c.args.before ≡ next.Ready = search rules in
-    want_goes _ _ d _ first _ _ c.args.before _ h ready
-    (as_course _ _ _ _ _ _ _ (other_course _ _ c.args.e.now c.in-Node.op c.in-Node.kids c.in-Node.is c.in-Other.ensures)
+    want_goes c.args.all _ _ d _ first _ _ c.args.before _ h ready
+    (as_course c.args.all _ _ _ _ _ _ _ (other_course _ _ c.args.e.now c.in-Node.op c.in-Node.kids c.in-Node.is c.in-Other.ensures)
     (c.want_in_kids-in-Other.ensures.wants (as_begins _ _ _ _ _ (other_keys _ c.args.e.now c.in-Node.op c.in-Node.kids c.in-Node.is c.in-Other.ensures) b)))
 
 pub want_in-returns-in-Other-clause-rest : goal.want_in-returns-in-Other-clause-rest
@@ -68,7 +68,7 @@ want_in_kids-loop-kid-init g t c = record {
   next_inside = tt;
   rest_marks = c.requires.room;
   room = refl;
-  so_far = λ b. want-start _ _ c.as_slice-kid-items.result.now _ _ b;
+  so_far = λ b. want-start c.args.all _ _ c.as_slice-kid-items.result.now _ _ b;
 }
 
 pub want_in_kids-loop-kid-preserved : goal.want_in_kids-loop-kid-preserved
@@ -82,7 +82,7 @@ want_in_kids-loop-kid-preserved g t c = record {
   room = c.want_in-after.ensures.room ∙ c.loop-kid.invariant.room;
   so_far =
       λ b.
-      want-item _ _ c.as_slice-kid-items.result.now c.loop-kid.kid-index c.kid-item.result _ _ _ _ _ _ _ c.loop-kid-test.true c.kid-item.is
+      want-item c.args.all _ _ c.as_slice-kid-items.result.now c.loop-kid.kid-index c.kid-item.result _ _ _ _ _ _ _ c.loop-kid-test.true c.kid-item.is
       c.want_in-after.ensures.rest c.want_in-after.ensures.wants (c.loop-kid.invariant.so_far b);
 }
 
@@ -90,8 +90,8 @@ pub want_in_kids-returns-clause-wants : goal.want_in_kids-returns-clause-wants
 want_in_kids-returns-clause-wants g t c b =
     let parent = option_copied c.args.parent in
     let rows = g.R.Results.rows c.args.results.now in
-    along (λ ks. Wanting parent rows (all_courses (courses (text_key parent) (ask_of rows) (row_of ks))) c.args.marks.now c.loop-kid.next c.loop-kid.marks) c.as_slice-kid-items.ensures
-    (want-all parent rows c.as_slice-kid-items.result.now c.loop-kid.kid-index _ c.loop-kid.next _ _ c.loop-kid-test.false
+    along (λ ks. Wanting c.args.all parent rows (all_courses (courses (text_key parent) (ask_of rows) (row_of ks))) c.args.marks.now c.loop-kid.next c.loop-kid.marks) c.as_slice-kid-items.ensures
+    (want-all c.args.all parent rows c.as_slice-kid-items.result.now c.loop-kid.kid-index _ c.loop-kid.next _ _ c.loop-kid-test.false
     (c.loop-kid.invariant.so_far (as_begins parent rows _ _ _ (ap (λ ks. keys_of_row parent (row_of ks)) (sym c.as_slice-kid-items.ensures)) b)))
 
 pub want_in_kids-returns-clause-rest : goal.want_in_kids-returns-clause-rest
@@ -108,12 +108,12 @@ want_choice-returns-then-recovers-clause-wants g t c b =
     let bs = two_begin parent rows ks c.index-kids-0.result c.index-kids-1.result _ _ two c.index-kids-0.is c.index-kids-1.is c.want_in-first.ensures.rest
     (as_begins parent rows _ _ _ (ap (λ ks. keys_of_row parent (row_of ks)) (sym c.as_slice-kids.ensures)) b) in
     let left = course (text_key parent) (ask_of rows) (term c.index-kids-0.result.body) in
-    let first = want_first parent rows left _ _ _ (c.want_in-first.ensures.wants bs.0 nothing_asked _ (want_start parent rows _)) in
+    let first = want_first c.args.all parent rows left _ _ _ (c.want_in-first.ensures.wants bs.0 nothing_asked _ (want_start c.args.all parent rows _)) in
     let alike = ends_alike parent rows left.ending _ first.end in
-    along (λ ks. Wanting parent rows (choice_course (courses (text_key parent) (ask_of rows) (row_of ks))) c.args.marks.now c.want_in.result.0 c.want_in.new.marks) c.as_slice-kids.ensures
-    (want_right parent rows ks c.index-kids-0.result c.index-kids-1.result _ _ _ two c.index-kids-0.is c.index-kids-1.is
+    along (λ ks. Wanting c.args.all parent rows (choice_course (courses (text_key parent) (ask_of rows) (row_of ks))) c.args.marks.now c.want_in.result.0 c.want_in.new.marks) c.as_slice-kids.ensures
+    (want_right c.args.all parent rows ks c.index-kids-0.result c.index-kids-1.result _ _ _ two c.index-kids-0.is c.index-kids-1.is
     (sym alike.alike ∙ sym (c.recovers.ensures parent alike.walked alike.next_is) ∙ c.if-recovers.true)
-    (c.want_in.ensures.wants bs.1 (record { asked = left.asked; ending = Goes }) _ (passed parent rows left _ _ _ first)))
+    (c.want_in.ensures.wants bs.1 (record { asked = left.asked; ending = Goes }) _ (passed c.args.all parent rows left _ _ _ first)))
 
 pub want_choice-returns-then-recovers-clause-rest : goal.want_choice-returns-then-recovers-clause-rest
 want_choice-returns-then-recovers-clause-rest g t c =
@@ -130,10 +130,10 @@ want_choice-returns-else-recovers-clause-wants g t c b =
     let bs = two_begin parent rows ks c.index-kids-0.result c.index-kids-1.result _ _ two c.index-kids-0.is c.index-kids-1.is c.want_in-first.ensures.rest
     (as_begins parent rows _ _ _ (ap (λ ks. keys_of_row parent (row_of ks)) (sym c.as_slice-kids.ensures)) b) in
     let left = course (text_key parent) (ask_of rows) (term c.index-kids-0.result.body) in
-    let first = want_first parent rows left _ _ _ (c.want_in-first.ensures.wants bs.0 nothing_asked _ (want_start parent rows _)) in
+    let first = want_first c.args.all parent rows left _ _ _ (c.want_in-first.ensures.wants bs.0 nothing_asked _ (want_start c.args.all parent rows _)) in
     let alike = ends_alike parent rows left.ending _ first.end in
-    along (λ ks. Wanting parent rows (choice_course (courses (text_key parent) (ask_of rows) (row_of ks))) c.args.marks.now c.want_in-first.result.0 c.want_in-first.new.marks) c.as_slice-kids.ensures
-    (want_left parent rows ks c.index-kids-0.result c.index-kids-1.result _ _ _ two c.index-kids-0.is c.index-kids-1.is
+    along (λ ks. Wanting c.args.all parent rows (choice_course (courses (text_key parent) (ask_of rows) (row_of ks))) c.args.marks.now c.want_in-first.result.0 c.want_in-first.new.marks) c.as_slice-kids.ensures
+    (want_left c.args.all parent rows ks c.index-kids-0.result c.index-kids-1.result _ _ _ two c.index-kids-0.is c.index-kids-1.is
     (sym alike.alike ∙ sym (c.recovers.ensures parent alike.walked alike.next_is) ∙ c.if-recovers.false) first)
 
 pub want_choice-returns-else-recovers-clause-rest : goal.want_choice-returns-else-recovers-clause-rest

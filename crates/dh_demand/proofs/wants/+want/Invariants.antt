@@ -16,5 +16,5 @@ invariant-want_in_kids-loop-kid g l = record {
   rest_marks : HaveMarks l.marks l.rest;
   room : length l.marks ≡ length l.fn.marks;
   so_far : Begins (option_copied l.parent) (g.R.Results.rows l.results) (keys_of_row (option_copied l.parent) (row_of l.kid-items)) l.edges
-      → WantSoFar (option_copied l.parent) (g.R.Results.rows l.results) l.kid-items l.kid-index l.fn.marks l.next l.marks l.rest;
+      → WantSoFar l.all (option_copied l.parent) (g.R.Results.rows l.results) l.kid-items l.kid-index l.fn.marks l.next l.marks l.rest;
 }

@@ -1,5 +1,4 @@
-use Rattle.std.proofs.Common.{◌≡◌, ap, sym, ◌∙◌}
-use Rattle.std.specs.Prelude.{true}
+use Rattle.std.proofs.Common.{ap, sym, ◌∙◌}
 use Rattle.std.specs.Option.{option_copied, option_map}
 use Rattle.dh_syntax.specs.Expressions.SameTree.{digest_eq}
 use Rattle.dh_table.specs.Inside.Reading.{seen_of}

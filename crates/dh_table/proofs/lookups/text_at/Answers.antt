@@ -1,5 +1,5 @@
 use Rattle.std.proofs.Common.{◌≡◌, ap, sym, ◌∙◌, subst as along}
-use Rattle.std.specs.Prelude.{Option, Some, true, All, IfSome}
+use Rattle.std.specs.Prelude.{Option, true, IfSome}
 use Rattle.std.specs.Option.{option_copied, option_map}
 use Rattle.std.proofs.lemmas.List.Elements.{All-get_or}
 use Rattle.dh_syntax.specs.Expressions.SameTree.{loc_eq}

@@ -1,4 +1,4 @@
-use Rattle.std.proofs.Common.{sym, ◌∙◌, length, subst as along}
+use Rattle.std.proofs.Common.{length}
 use Rattle.dh_table.specs.declared.steps.Flight.{Flight}
 use Rattle.dh_table.specs.declared.steps.Kind.TheVariants as kinds
 use Rattle.dh_table.proofs.Tasks.{flies_nowhere}

@@ -1,4 +1,4 @@
-use Rattle.std.proofs.Common.{◌≡◌, ℕ, ◌<◌, get_or}
+use Rattle.std.proofs.Common.{ℕ, ◌<◌, get_or}
 use Rattle.dh_table.specs.declared.steps.Flight.{Flight}
 use Rattle.dh_table.specs.Inside.Searching.{IsLastOf}
 use Rattle.dh_table.proofs.sameness.flies.Given as goal

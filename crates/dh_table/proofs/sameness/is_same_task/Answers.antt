@@ -1,10 +1,5 @@
-use Rattle.std.proofs.Common.{◌≡◌, ap, sym, ◌∙◌, subst as along}
-use Rattle.std.specs.Bool.{Decides}
-use Rattle.dh_syntax.specs.declared.locations.Key.{Key}
-use Rattle.dh_syntax.specs.Imports.Machine as machine
-use Rattle.dh_table.specs.declared.steps.Kind.{Kind}
 use Rattle.dh_table.specs.declared.steps.Kind.TheVariants as kinds
-use Rattle.dh_table.specs.States.{digest_or_none, key_named, task_by, task_of}
+use Rattle.dh_table.specs.States.{digest_or_none}
 use Rattle.dh_table.proofs.Reading.{key_at_names}
 use Rattle.dh_table.proofs.Tasks.{same_fetch, same_look, same_finish, same_by}
 use Rattle.dh_table.proofs.sameness.is_same_task.Goals as goal

@@ -1,5 +1,5 @@
 use Rattle.std.proofs.Common.{◌≡◌, List, take, ℕ, ◌<◌}
-use Rattle.std.specs.Prelude.{map, reverse, All, IfSome}
+use Rattle.std.specs.Prelude.{map, reverse, All, Contains, IfSome}
 use Rattle.std.specs.Option.{option_map}
 use Rattle.dh_syntax.specs.Expressions.Numbers.{eq}
 use Rattle.dh_syntax.specs.Imports.Records.{lookup}
@@ -13,4 +13,5 @@ abbrev pub invariant-loop-flight : goal.invariant-loop-flight
 invariant-loop-flight l = record {
   task : (keys : List Entrant) → option_map (task_of keys) l.found ≡ lookup eq (reverse (map (flight_of keys) (take l.flight-index l.flights))) l.serial;
   inside : (n : ℕ) → All (λ (f : Flight). f.job.key < n) l.flights → IfSome l.found (λ (j : Job). j.key < n);
+  among : IfSome l.found (λ (j : Job). (f : Flight) × Contains l.flights f × (f.job ≡ j));
 }

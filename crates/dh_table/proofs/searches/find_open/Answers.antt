@@ -1,9 +1,7 @@
 use Rattle.std.proofs.Common.{ap, ◌∙◌, length}
-use Rattle.std.specs.Prelude.{◌≡◌, replicate, false}
+use Rattle.std.specs.Prelude.{false}
 use Rattle.std.proofs.lemmas.List.{length-replicate}
 use Rattle.dh_syntax.specs.Expressions.Bridge.{term}
-use Rattle.dh_table.specs.declared.searches.Pass.TheVariants as passes
-use Rattle.dh_table.specs.Inside.Searching.{IsPassed}
 use Rattle.dh_table.proofs.Seeing.{first_explored, none_open}
 use Rattle.dh_table.proofs.searches.find_open.Goals as goal
 

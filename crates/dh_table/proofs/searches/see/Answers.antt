@@ -1,7 +1,3 @@
-use Rattle.std.proofs.Common.{sym, subst as along}
-use Rattle.dh_table.specs.Inside.Reading.{IsReach}
-use Rattle.dh_table.specs.declared.visits.Reach.{Reach}
-use Rattle.dh_table.specs.declared.visits.Reach.TheVariants as reaches
 use Rattle.dh_table.proofs.Seeing.{see_by, see_explored, waiting_tasks, flying_tasks, open_job}
 use Rattle.dh_table.proofs.searches.see.Goals as goal
 

@@ -1,5 +1,5 @@
-use Rattle.std.proofs.Common.{◌≡◌, ap, sym, ◌∙◌, subst as along, arith, length}
-use Rattle.std.specs.Prelude.{◌<◌, Some, slice_set, true}
+use Rattle.std.proofs.Common.{sym, subst as along, arith}
+use Rattle.std.specs.Prelude.{Some}
 use Rattle.std.proofs.lemmas.List.{length-map}
 use Rattle.dh_syntax.specs.declared.locations.Key.{Key}
 use Rattle.dh_syntax.specs.Expressions.Bridge.{term}

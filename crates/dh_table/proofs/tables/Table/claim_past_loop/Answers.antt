@@ -1,11 +1,11 @@
-use Rattle.std.proofs.Common.{refl, ap, sym, ◌∙◌, subst as along}
-use Rattle.std.specs.Prelude.{◌≡◌, [], ◌∷◌, true, false, Some, None, IsSome, length, suc}
+use Rattle.std.proofs.Common.{ap, sym, ◌∙◌, subst as along}
+use Rattle.std.specs.Prelude.{◌≡◌, [], ◌∷◌, Some, None, IsSome, length, suc}
 use Rattle.std.proofs.lemmas.Bool.{false≢true}
 use Rattle.dh_syntax.specs.Imports.Machine as machine
 use Rattle.dh_syntax.specs.Imports.Machine.{State, May, effect}
 use Rattle.dh_syntax.specs.Imports.Replay.{root_end}
 use Rattle.dh_table.specs.declared.steps.Step.TheVariants as steps
-use Rattle.dh_table.specs.Calls.{Adds, HandsOut, IsOver, claim_steps, mark_steps}
+use Rattle.dh_table.specs.Calls.{Adds}
 use Rattle.dh_table.specs.Inside.Searching.{IsJob}
 use Rattle.dh_table.specs.Shown.{Shown}
 use Rattle.dh_table.specs.States.{key_named, state_of, task_of}

@@ -1,12 +1,13 @@
-use Rattle.std.proofs.Common.{rules, ◌≡◌, ◌+◌, ◌<◌, suc, length, sym, arith, append-nil, vec_len, subst as along}
+use Rattle.std.proofs.Common.{rules, ◌≡◌, ◌+◌, ◌<◌, suc, length, sym, arith, append-nil, subst as along}
 use Rattle.std.specs.Prelude.{map}
 use Rattle.std.proofs.lemmas.Grind.{common_steps}
 use Rattle.dh_syntax.specs.Imports.Machine as machine
 use Rattle.dh_syntax.specs.Imports.Machine.{IsOpen}
 use Rattle.dh_table.specs.declared.steps.Flight.{Flight}
 use Rattle.dh_table.specs.declared.steps.Job.{Job}
-use Rattle.dh_table.specs.States.{state_of, task_of, news_of}
-use Rattle.dh_table.specs.Tables.{view_of}
+use Rattle.dh_table.specs.States.{IsFrozenLook, state_of, task_of, news_of}
+use Rattle.dh_table.specs.Tables.{IsStepNamed, view_of}
+use Rattle.dh_table.proofs.Fitting.{fit_drawn}
 use Rattle.dh_table.proofs.Histories.{further}
 use Rattle.dh_table.proofs.Stepping.{state-with, drawn-flights, drawn-jobs, drawn-history, all-push}
 use Rattle.dh_table.proofs.tables.Table.draw.Goals as goal
@@ -31,9 +32,11 @@ invariant_of-self g c =
       drawn_named = all-push (λ (j : Job). j.key < length t.keys) t.drawn.items _ _ c.put.ensures.items c.self.invariant.drawn_named (search rules);
       decided_named = c.self.invariant.decided_named;
       limited_named = c.self.invariant.limited_named;
+      history_named = all-push (IsStepNamed (length t.keys)) t.history.items _ _ c.put-3.ensures.items c.self.invariant.history_named tt;
       owned = c.self.invariant.owned;
       asks = c.self.invariant.asks;
       known = c.self.invariant.known;
+      fit = fit_drawn keys t.flights.items _ f c.put-2.ensures.items (along (λ v. IsFrozenLook v.keys c.args.job) (sym c.self.view_is) c.requires.frozen) c.self.invariant.fit;
       scratch = c.self.invariant.scratch;
       room = grind (arith, common_steps);
     }

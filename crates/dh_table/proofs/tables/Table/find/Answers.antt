@@ -1,5 +1,4 @@
 use Rattle.std.proofs.Common.{refl, subst as along}
-use Rattle.dh_syntax.specs.Expressions.Bridge.{term}
 use Rattle.dh_table.specs.Inside.Searching.{IsFound, Stands}
 use Rattle.dh_table.specs.States.{state_of}
 use Rattle.dh_table.specs.Tables.{view_of}

@@ -1,13 +1,11 @@
-use Rattle.std.proofs.Common.{refl, ap, sym, subst as along}
-use Rattle.std.specs.Prelude.{◌≡◌, []}
+use Rattle.std.proofs.Common.{refl, sym, subst as along}
+use Rattle.std.specs.Prelude.{◌≡◌}
 use Rattle.dh_syntax.specs.Imports.Machine.{State, root_walk}
 use Rattle.dh_syntax.specs.Imports.Walk.{Needs}
 use Rattle.dh_import_laws.proofs.Progress.{root_wanted}
-use Rattle.dh_table.specs.declared.texts.Entrant.{Entrant}
 use Rattle.dh_table.specs.Inside.Searching.{IsLoop, IsStuck, Stands}
 use Rattle.dh_table.specs.Shown.{Shown}
 use Rattle.dh_table.specs.States.{key_named, state_of}
-use Rattle.dh_table.specs.Tables.{view_of}
 use Rattle.dh_table.proofs.tables.Table.find_loop.Goals as goal
 
 pub least_of_loop-requires-clause-stuck : goal.least_of_loop-requires-clause-stuck

@@ -1,4 +1,4 @@
-use Rattle.std.proofs.Common.{◌≡◌, ap, sym, ◌∙◌, subst as along}
+use Rattle.std.proofs.Common.{ap, ◌∙◌}
 use Rattle.std.specs.Prelude.{length}
 use Rattle.dh_syntax.specs.Imports.Replay.{distinct, keys}
 use Rattle.dh_table.specs.Shown.{Shown}

@@ -6,10 +6,11 @@ use Rattle.dh_syntax.specs.Imports.Machine.{Task, InFlight}
 use Rattle.dh_table.specs.declared.steps.Flight.{Flight}
 use Rattle.dh_table.specs.declared.steps.Step.TheVariants as steps
 use Rattle.dh_table.specs.States.{state_of, news_of, step_by}
-use Rattle.dh_table.specs.Tables.{view_of}
+use Rattle.dh_table.specs.Tables.{IsStepNamed, view_of}
+use Rattle.dh_table.proofs.Fitting.{fit_filtered}
 use Rattle.dh_table.proofs.Histories.{further}
 use Rattle.dh_table.proofs.Logs.{mapped, others, fewer_flights, room_lands}
-use Rattle.dh_table.proofs.Stepping.{flights-with, filtered-flights, all-filter}
+use Rattle.dh_table.proofs.Stepping.{flights-with, filtered-flights, all-filter, all-push}
 use Rattle.dh_table.proofs.tables.Table.land.Goals as goal
 
 pub invariant_of-self : goal.invariant_of-self
@@ -32,9 +33,11 @@ invariant_of-self g c =
       drawn_named = c.self.invariant.drawn_named;
       decided_named = c.self.invariant.decided_named;
       limited_named = c.self.invariant.limited_named;
+      history_named = all-push (IsStepNamed (length t.keys)) t.history.items _ (steps.Release c.args.serial) c.put.ensures.items c.self.invariant.history_named tt;
       owned = c.self.invariant.owned;
       asks = c.self.invariant.asks;
       known = c.self.invariant.known;
+      fit = fit_filtered t.keys (others c.args.serial) t.flights.items _ left c.self.invariant.fit;
       scratch = c.self.invariant.scratch;
       room =
           room_lands (vec_len t.flights) _ (vec_capacity t.flights) _ (vec_len t.drawn) _ (vec_len t.history) _ (vec_capacity t.history) _ (vec_len t.refused) _ _ fewer c.self.invariant.room c.retain.ensures.capacity c.put.ensures.len c.put.ensures.room;

@@ -1,5 +1,5 @@
-use Rattle.std.proofs.Common.{rules, ◌≡◌, ◌<◌, ◌+◌, refl, ap, sym, ◌∙◌, append-nil, arith, vec_len, vec_capacity, length, subst as along}
-use Rattle.std.specs.Prelude.{ℕ, ◌≤◌, List, All, Some, None, map, reverse, slice_index_or}
+use Rattle.std.proofs.Common.{◌≡◌, ◌<◌, refl, ap, sym, ◌∙◌, append-nil, arith, length, subst as along}
+use Rattle.std.specs.Prelude.{ℕ, All, Some, None, map, slice_index_or}
 use Rattle.std.proofs.lemmas.Grind.{common_steps}
 use Rattle.std.proofs.lemmas.List.Elements.{All-get_or}
 use Rattle.dh_syntax.specs.declared.outcomes.Outcome as program
@@ -12,12 +12,13 @@ use Rattle.dh_syntax.specs.Imports.Outcomes.{plain}
 use Rattle.dh_demand.specs.Results.{ask_of}
 use Rattle.dh_table.specs.declared.steps.Flight.{Flight}
 use Rattle.dh_table.specs.declared.steps.Job.{Job}
-use Rattle.dh_table.specs.declared.texts.Entrant.{Entrant}
+use Rattle.dh_table.specs.declared.steps.Step.TheVariants as steps
 use Rattle.dh_table.specs.Inside.Entering.{decided_at}
 use Rattle.dh_table.specs.Shown.{Shown}
 use Rattle.dh_table.specs.States.{nobody, rows_of, key_named, state_of, news_of, step_by}
-use Rattle.dh_table.specs.Tables.{IsKnown, IsOwned, IsRoomy, view_of}
+use Rattle.dh_table.specs.Tables.{AreFit, IsKnown, IsOwned, IsStepNamed, IsRoomy, view_of}
 use Rattle.dh_table.proofs.Deciding.{undecided_at, decided_state, decided_history, decided_known, decided_owned, decided_length, asks_after, no_limit}
+use Rattle.dh_table.proofs.Fitting.{fit_decided}
 use Rattle.dh_table.proofs.Histories.{further}
 use Rattle.dh_table.proofs.Stepping.{all-push}
 use Rattle.dh_table.proofs.tables.Table.mark.Goals as goal
@@ -49,9 +50,11 @@ invariant_of-self g c =
       drawn_named = along (λ m. All (λ (j : Job). j.key < m) t.drawn.items) (sym sizes) inv.drawn_named;
       decided_named = along (λ m. All (λ (x : ℕ). x < m) c.put.new.v.items) (sym sizes) (all-push (λ (x : ℕ). x < length keys) t.decided.items c.put.new.v.items n c.put.ensures.items inv.decided_named inside);
       limited_named = along (λ m. All (λ (x : ℕ). x < m) t.limited.items) (sym sizes) inv.limited_named;
+      history_named = along (λ m. All (IsStepNamed m) c.put-2.new.v.items) (sym sizes) (all-push (IsStepNamed (length keys)) t.history.items _ (steps.Cycled n) c.put-2.ensures.items inv.history_named inside);
       owned = along (λ es. All IsOwned es) (sym keys_is) (decided_owned keys n o inside d inv.owned);
       asks = ap outcome_of state_is ∙ asks_after (state_of v) keys n o inside d inv.asks ∙ ap (λ es. ask_of (rows_of es)) (sym keys_is);
       known = along (λ es. IsKnown t.root es t.texts.items) (sym keys_is) (decided_known keys n o inside d t.root t.texts.items inv.known);
+      fit = along (λ es. AreFit es t.flights.items) (sym keys_is) (fit_decided keys n o t.flights.items inside d tt inv.fit);
       scratch = along (λ m. IsRoomy m t.scratch) (sym sizes) inv.scratch;
       room = grind (arith, common_steps);
     }

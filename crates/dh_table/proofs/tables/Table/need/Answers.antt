@@ -1,5 +1,5 @@
 use Rattle.std.proofs.Common.{ap, sym, ◌∙◌, refl, subst as along}
-use Rattle.std.specs.Prelude.{◌≡◌, ◌<◌, ◌≤◌, false, None, is_some, length, IsSome}
+use Rattle.std.specs.Prelude.{◌≡◌, false, None, is_some, IsSome}
 use Rattle.std.proofs.lemmas.Bool.{false≢true}
 use Rattle.dh_syntax.specs.Imports.Machine.{root_walk}
 use Rattle.dh_syntax.specs.Imports.Replay.{has_too_many, root_end}

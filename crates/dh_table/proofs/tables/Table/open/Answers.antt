@@ -1,5 +1,5 @@
-use Rattle.std.proofs.Common.{rules, ◌≡◌, ap, sym, ◌∙◌, subst as along, arith}
-use Rattle.std.specs.Prelude.{ℕ, ◌<◌, ◌++◌, [], All, None, length}
+use Rattle.std.proofs.Common.{ap, sym, ◌∙◌, subst as along, arith}
+use Rattle.std.specs.Prelude.{ℕ, List, ◌<◌, [], None, length}
 use Rattle.std.proofs.lemmas.List.Elements.{All-nil, All-same}
 use Rattle.std.proofs.lemmas.Grind.{common_steps}
 use Rattle.dh_syntax.specs.Imports.Machine.{outcome_of}
@@ -8,11 +8,11 @@ use Rattle.dh_syntax.specs.Imports.Walk.{keys_of}
 use Rattle.dh_demand.specs.declared.scans.Scan.{Scan}
 use Rattle.dh_table.specs.declared.steps.Flight.{Flight}
 use Rattle.dh_table.specs.declared.steps.Job.{Job}
-use Rattle.dh_table.specs.declared.texts.Text.{Text}
-use Rattle.dh_table.specs.Inside.Entering.{AreMore, AreEdges, entered_all}
+use Rattle.dh_table.specs.Inside.Entering.{AreEdges}
 use Rattle.dh_table.specs.States.{rows_of}
-use Rattle.dh_table.specs.Tables.{IsKnown, IsOwned, view_of}
-use Rattle.dh_table.proofs.Beginnings.{entered_as, all_owned, opened_known, opened_asks, opened_count, IsEmpty, empty_state, empty_replayed, above, not_above}
+use Rattle.dh_table.specs.Tables.{AreFit, IsKnown, IsStepNamed, view_of}
+use Rattle.dh_table.proofs.Fitting.{fit_opened}
+use Rattle.dh_table.proofs.Beginnings.{entered_as, all_new, all_owned, opened_known, opened_asks, opened_count, IsEmpty, empty_state, empty_replayed, above, not_above}
 use Rattle.dh_table.proofs.tables.Table.open.Goals as goal
 
 pub returns-then-count-gt-MOST_KEYS-clause-too_many : goal.returns-then-count-gt-MOST_KEYS-clause-too_many
@@ -46,9 +46,11 @@ invariant_of-result g c =
       drawn_named = All-same (λ (j : Job). j.key < length keys) c.new-6.result.items [] c.new-6.ensures.items (All-nil (λ (j : Job). j.key < length keys));
       decided_named = All-same (λ (n : ℕ). n < length keys) c.new-3.result.items [] c.new-3.ensures.items (All-nil (λ (n : ℕ). n < length keys));
       limited_named = All-same (λ (n : ℕ). n < length keys) c.new-4.result.items [] c.new-4.ensures.items (All-nil (λ (n : ℕ). n < length keys));
+      history_named = All-same (IsStepNamed (length keys)) c.new-7.result.items [] c.new-7.ensures.items (All-nil (IsStepNamed (length keys)));
       owned = all_owned root keys m;
       asks = ap outcome_of (empty_state t empty) ∙ opened_asks root keys m;
       known = known;
+      fit = along (λ (fs : List Flight). AreFit keys fs) (sym c.new-5.ensures.items) (fit_opened keys (all_new root keys m));
       scratch = (rw c.len-count.ensures at c.in_ok-scratch.ensures);
       room = grind (arith, common_steps);
     }

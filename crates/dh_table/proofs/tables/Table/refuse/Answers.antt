@@ -1,12 +1,13 @@
-use Rattle.std.proofs.Common.{sym, refl, arith, subst as along}
+use Rattle.std.proofs.Common.{sym, refl, arith, length, subst as along}
 use Rattle.std.proofs.lemmas.Grind.{common_steps}
 use Rattle.dh_syntax.specs.Imports.Machine as machine
 use Rattle.dh_syntax.specs.Imports.Machine.{IsInTime}
 use Rattle.dh_table.specs.States.{state_of, news_of, step_by}
-use Rattle.dh_table.specs.Tables.{view_of}
+use Rattle.dh_table.specs.Tables.{IsStepNamed, view_of}
 use Rattle.dh_table.specs.declared.steps.Step.TheVariants as steps
 use Rattle.dh_table.proofs.Histories.{further}
 use Rattle.dh_table.proofs.Logs.{mapped}
+use Rattle.dh_table.proofs.Stepping.{all-push}
 use Rattle.dh_table.proofs.tables.Table.refuse.Goals as goal
 
 pub invariant_of-self : goal.invariant_of-self
@@ -25,9 +26,11 @@ invariant_of-self g c =
       drawn_named = c.self.invariant.drawn_named;
       decided_named = c.self.invariant.decided_named;
       limited_named = c.self.invariant.limited_named;
+      history_named = all-push (IsStepNamed (length t.keys)) t.history.items _ (steps.Late c.args.serial) c.put-2.ensures.items c.self.invariant.history_named tt;
       owned = c.self.invariant.owned;
       asks = c.self.invariant.asks;
       known = c.self.invariant.known;
+      fit = c.self.invariant.fit;
       scratch = c.self.invariant.scratch;
       room = grind (arith, common_steps);
     }

@@ -5,7 +5,6 @@ use Rattle.dh_syntax.specs.Imports.Walk.{Ask, walk}
 use Rattle.dh_demand.specs.Nexts.{IsNext}
 use Rattle.dh_demand.specs.Results.{ask_of}
 use Rattle.dh_table.specs.States.{rows_of, state_of}
-use Rattle.dh_table.specs.Tables.{view_of}
 use Rattle.dh_table.proofs.tables.Table.root_next.Goals as goal
 
 pub returns-clause-next : goal.returns-clause-next

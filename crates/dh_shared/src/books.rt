@@ -1,0 +1,284 @@
+//! The seven ledgers in which workers count what they do, and the shares of them that each worker holds.
+
+ghost use Rattle.std.specs.Prelude.{◌≡◌, ℕ, ◌+◌, ◌≤◌, ◌<◌, cond};
+ghost use Rattle.dh_shared.specs.Held.{none_held, both, with_claim, with_kept, with_release, with_late, with_over};
+ghost use Rattle.dh_shared.specs.AllParts.{AllParts};
+
+use std::marker::Model;
+use std::sync::ledger::{Blank, Book, Ledger, Share};
+
+/// Seven new ledgers. They have no parameters, so that one function can make them and another can name their ledgers.
+#[derive(Drop)]
+pub struct Blanks {
+    pub claims: Blank,
+    pub kept: Blank,
+    pub releases: Blank,
+    pub lates: Blank,
+    pub fetches: Blank,
+    pub failed: Blank,
+    pub overs: Blank,
+}
+
+impl Blanks {
+    /// Seven ledgers of so many parts.
+    pub fn new(workers: u64) -> Blanks
+        ensures { AllParts result workers }
+    {
+        Blanks {
+            claims: Blank::new(workers),
+            kept: Blank::new(workers),
+            releases: Blank::new(workers),
+            lates: Blank::new(workers),
+            fetches: Blank::new(workers),
+            failed: Blank::new(workers),
+            overs: Blank::new(workers),
+        }
+    }
+}
+
+/// The seven books: what all workers together have counted.
+#[derive(Drop)]
+pub struct Books<C: Ledger, K: Ledger, R: Ledger, L: Ledger, F: Ledger, X: Ledger, O: Ledger> {
+    claims: Book<C>,
+    kept: Book<K>,
+    releases: Book<R>,
+    lates: Book<L>,
+    fetches: Book<F>,
+    failed: Book<X>,
+    overs: Book<O>,
+}
+
+impl<C: Ledger, K: Ledger, R: Ledger, L: Ledger, F: Ledger, X: Ledger, O: Ledger> Model
+    for Books<C, K, R, L, F, X, O> {
+    ghost use Rattle.dh_shared.specs.Held.{Held};
+
+    ghost Value = { Held };
+
+    ghost view = { λ b. record { parts = 0; claims = b.claims.total; kept = b.kept.total; releases = b.releases.total; lates = b.lates.total; fetches = b.fetches.total; failed = b.failed.total; overs = b.overs.total } };
+}
+
+/// The same number of parts of each of the seven, with what was counted on them.
+#[derive(Drop)]
+pub struct Shares<C: Ledger, K: Ledger, R: Ledger, L: Ledger, F: Ledger, X: Ledger, O: Ledger> {
+    claims: Share<C>,
+    kept: Share<K>,
+    releases: Share<R>,
+    lates: Share<L>,
+    fetches: Share<F>,
+    failed: Share<X>,
+    overs: Share<O>,
+}
+
+impl<C: Ledger, K: Ledger, R: Ledger, L: Ledger, F: Ledger, X: Ledger, O: Ledger> Model
+    for Shares<C, K, R, L, F, X, O> {
+    ghost use Rattle.std.specs.Prelude.{◌≡◌};
+    ghost use Rattle.dh_shared.specs.Held.{Held};
+
+    ghost Value = { Held };
+
+    ghost view = { λ s. record { parts = s.claims.parts; claims = s.claims.amount; kept = s.kept.amount; releases = s.releases.amount; lates = s.lates.amount; fetches = s.fetches.amount; failed = s.failed.amount; overs = s.overs.amount } };
+
+    ghost invariant = { λ s. (s.kept.parts ≡ s.claims.parts) × (s.releases.parts ≡ s.claims.parts) × (s.lates.parts ≡ s.claims.parts) × (s.fetches.parts ≡ s.claims.parts) × (s.failed.parts ≡ s.claims.parts) × (s.overs.parts ≡ s.claims.parts) };
+}
+
+/// The seat of one worker: one part of each ledger.
+#[derive(Drop)]
+pub struct Seat<C: Ledger, K: Ledger, R: Ledger, L: Ledger, F: Ledger, X: Ledger, O: Ledger> {
+    pub(crate) worker: u32,
+    pub(crate) shares: Shares<C, K, R, L, F, X, O>,
+    ghost one: { shares.parts ≡ 1 },
+}
+
+impl<C: Ledger, K: Ledger, R: Ledger, L: Ledger, F: Ledger, X: Ledger, O: Ledger> Books<
+    C,
+    K,
+    R,
+    L,
+    F,
+    X,
+    O,
+> {
+    /// Opens the books, and the shares that hold all of their parts.
+    pub fn open(
+        blanks: Blanks,
+        workers: u64,
+    ) -> (Books<C, K, R, L, F, X, O>, Shares<C, K, R, L, F, X, O>)
+        requires claims { (blanks.claims.name ≡ C.name) × (blanks.claims.parts ≡ C.parts) × (C.parts ≡ workers) }
+        requires kept { (blanks.kept.name ≡ K.name) × (blanks.kept.parts ≡ K.parts) × (K.parts ≡ workers) }
+        requires releases { (blanks.releases.name ≡ R.name) × (blanks.releases.parts ≡ R.parts) × (R.parts ≡ workers) }
+        requires lates { (blanks.lates.name ≡ L.name) × (blanks.lates.parts ≡ L.parts) × (L.parts ≡ workers) }
+        requires fetches { (blanks.fetches.name ≡ F.name) × (blanks.fetches.parts ≡ F.parts) × (F.parts ≡ workers) }
+        requires failed { (blanks.failed.name ≡ X.name) × (blanks.failed.parts ≡ X.parts) × (X.parts ≡ workers) }
+        requires overs { (blanks.overs.name ≡ O.name) × (blanks.overs.parts ≡ O.parts) × (O.parts ≡ workers) }
+        ensures books { result.0 ≡ none_held 0 }
+        ensures shares { result.1 ≡ none_held workers }
+    {
+        let Blanks {
+            claims,
+            kept,
+            releases,
+            lates,
+            fetches,
+            failed,
+            overs,
+        } = blanks;
+        let (claims, my_claims) = claims.open::<C>();
+        let (kept, my_kept) = kept.open::<K>();
+        let (releases, my_releases) = releases.open::<R>();
+        let (lates, my_lates) = lates.open::<L>();
+        let (fetches, my_fetches) = fetches.open::<F>();
+        let (failed, my_failed) = failed.open::<X>();
+        let (overs, my_overs) = overs.open::<O>();
+        (
+            Books {
+                claims,
+                kept,
+                releases,
+                lates,
+                fetches,
+                failed,
+                overs,
+            },
+            Shares {
+                claims: my_claims,
+                kept: my_kept,
+                releases: my_releases,
+                lates: my_lates,
+                fetches: my_fetches,
+                failed: my_failed,
+                overs: my_overs,
+            },
+        )
+    }
+
+    /// Counts a claim, and whether it is that of a fetch.
+    pub fn add_claim(&mut self, mine: &mut Shares<C, K, R, L, F, X, O>, fetch: bool)
+        requires { 0 < mine.old.parts }
+        ensures books { self.new ≡ with_claim self.old (cond fetch 1 0) }
+        ensures shares { mine.new ≡ with_claim mine.old (cond fetch 1 0) }
+    {
+        self.claims.add(&mut mine.claims, 1);
+        self.fetches.add(&mut mine.fetches, u64::from(fetch));
+    }
+
+    /// Counts a delivery that was kept, and whether it told a failure.
+    pub fn add_kept(&mut self, mine: &mut Shares<C, K, R, L, F, X, O>, failed: bool)
+        requires { 0 < mine.old.parts }
+        ensures books { self.new ≡ with_kept self.old (cond failed 1 0) }
+        ensures shares { mine.new ≡ with_kept mine.old (cond failed 1 0) }
+    {
+        self.kept.add(&mut mine.kept, 1);
+        self.failed.add(&mut mine.failed, u64::from(failed));
+    }
+
+    /// Counts a release.
+    pub fn add_release(&mut self, mine: &mut Shares<C, K, R, L, F, X, O>)
+        requires { 0 < mine.old.parts }
+        ensures books { self.new ≡ with_release self.old }
+        ensures shares { mine.new ≡ with_release mine.old }
+    {
+        self.releases.add(&mut mine.releases, 1);
+    }
+
+    /// Counts a delivery that came late.
+    pub fn add_late(&mut self, mine: &mut Shares<C, K, R, L, F, X, O>)
+        requires { 0 < mine.old.parts }
+        ensures books { self.new ≡ with_late self.old }
+        ensures shares { mine.new ≡ with_late mine.old }
+    {
+        self.lates.add(&mut mine.lates, 1);
+    }
+
+    /// Counts a claim that found the run over.
+    pub fn add_over(&mut self, mine: &mut Shares<C, K, R, L, F, X, O>)
+        requires { 0 < mine.old.parts }
+        ensures books { self.new ≡ with_over self.old }
+        ensures shares { mine.new ≡ with_over mine.old }
+    {
+        self.overs.add(&mut mine.overs, 1);
+    }
+
+    /// With every part the shares are the books.
+    pub fn audit(&mut self, all: &mut Shares<C, K, R, L, F, X, O>)
+        requires { (all.old.parts ≡ C.parts) × (all.old.parts ≡ K.parts) × (all.old.parts ≡ R.parts) × (all.old.parts ≡ L.parts) × (all.old.parts ≡ F.parts) × (all.old.parts ≡ X.parts) × (all.old.parts ≡ O.parts) }
+        ensures books { self.new ≡ self.old }
+        ensures shares { all.new ≡ all.old }
+        ensures same { record all.old { parts = 0 } ≡ self.old }
+    {
+        self.claims.audit(&mut all.claims);
+        self.kept.audit(&mut all.kept);
+        self.releases.audit(&mut all.releases);
+        self.lates.audit(&mut all.lates);
+        self.fetches.audit(&mut all.fetches);
+        self.failed.audit(&mut all.failed);
+        self.overs.audit(&mut all.overs);
+    }
+}
+
+impl<C: Ledger, K: Ledger, R: Ledger, L: Ledger, F: Ledger, X: Ledger, O: Ledger> Shares<
+    C,
+    K,
+    R,
+    L,
+    F,
+    X,
+    O,
+> {
+    /// One part of each, with no amount.
+    pub fn split_one(&mut self) -> Shares<C, K, R, L, F, X, O>
+        requires { (0 < self.old.parts) × (self.old ≡ none_held self.old.parts) }
+        ensures one { result ≡ none_held 1 }
+        ensures rest { (self.new.parts + 1 ≡ self.old.parts) × (self.new ≡ none_held self.new.parts) }
+    {
+        Shares {
+            claims: self.claims.split_off(1, 0),
+            kept: self.kept.split_off(1, 0),
+            releases: self.releases.split_off(1, 0),
+            lates: self.lates.split_off(1, 0),
+            fetches: self.fetches.split_off(1, 0),
+            failed: self.failed.split_off(1, 0),
+            overs: self.overs.split_off(1, 0),
+        }
+    }
+
+    /// Takes other shares in.
+    pub fn merge(&mut self, other: Shares<C, K, R, L, F, X, O>)
+        ensures { self.new ≡ both self.old other }
+    {
+        let Shares {
+            claims,
+            kept,
+            releases,
+            lates,
+            fetches,
+            failed,
+            overs,
+        } = other;
+        self.claims.merge(claims);
+        self.kept.merge(kept);
+        self.releases.merge(releases);
+        self.lates.merge(lates);
+        self.fetches.merge(fetches);
+        self.failed.merge(failed);
+        self.overs.merge(overs);
+    }
+}
+
+impl<C: Ledger, K: Ledger, R: Ledger, L: Ledger, F: Ledger, X: Ledger, O: Ledger> Seat<
+    C,
+    K,
+    R,
+    L,
+    F,
+    X,
+    O,
+> {
+    /// Its shares.
+    pub fn into_shares(self) -> Shares<C, K, R, L, F, X, O>
+        ensures one { result.parts ≡ 1 }
+        ensures same { result ≡ self.shares }
+    {
+        let Seat { worker: _, shares } = self;
+        shares
+    }
+}

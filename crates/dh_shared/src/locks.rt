@@ -1,0 +1,158 @@
+//! What lies under the lock: the table, and the books of what all workers have counted.
+
+ghost use Rattle.std.specs.Prelude.{◌≡◌, ◌+◌, ◌≤◌, ◌<◌, count_by, length, IsSome};
+ghost use Rattle.dh_syntax.specs.Imports.Replay.{root_end};
+ghost use Rattle.dh_table.specs.Calls.{failures};
+ghost use Rattle.dh_table.specs.States.{state_of};
+ghost use Rattle.dh_shared.specs.Counting.{is_claim, is_fetch_claim, is_recorded, is_release, is_late};
+ghost use Rattle.dh_shared.specs.Turns.{Turns, Hands, Frees, Brings};
+
+use crate::books::{Books, Seat};
+use crate::calls::{draw, hand_in, is_fetch, put_back, tells_failure, work_of};
+use crate::turns::Turn;
+use dh_ports::World;
+use dh_table::{Claimed, News, Table, Taken, Ticket};
+use std::alloc::Global;
+use std::sync::ledger::Ledger;
+
+/// The table with the books: each book has the number of steps of its kind that the history has.
+#[derive(Drop)]
+pub struct Locked<W, C: Ledger, K: Ledger, R: Ledger, L: Ledger, F: Ledger, X: Ledger, O: Ledger> {
+    pub(crate) alloc: Global,
+    pub(crate) table: Table<W>,
+    pub(crate) books: Books<C, K, R, L, F, X, O>,
+    ghost claims_in: { count_by is_claim table.history ≡ books.claims },
+    ghost kept_in: { count_by is_recorded table.history ≡ books.kept },
+    ghost releases_in: { count_by is_release table.history ≡ books.releases },
+    ghost lates_in: { count_by is_late table.history ≡ books.lates },
+    ghost fetches_in: { count_by is_fetch_claim table.history ≡ books.fetches },
+    ghost failed_in: { failures (state_of table) ≡ books.failed },
+    ghost over_in: { 0 < books.overs → IsSome (root_end (state_of table)) },
+}
+
+impl<W: World, C: Ledger, K: Ledger, R: Ledger, L: Ledger, F: Ledger, X: Ledger, O: Ledger> Locked<
+    W,
+    C,
+    K,
+    R,
+    L,
+    F,
+    X,
+    O,
+> {
+    /// One claim.
+    pub(crate) fn claim(&mut self, seat: &mut Seat<C, K, R, L, F, X, O>) -> Turn
+        ensures turn { Turns seat.old.shares seat.new.shares result }
+        ensures worker { seat.new.worker ≡ seat.old.worker }
+    {
+        let Some(need) = self.table.in_flight().checked_add(3) else {
+            return Turn::Memory;
+        };
+        if self.table.reserve(need).is_err() {
+            return Turn::Memory;
+        }
+        self.claim_within(seat)
+    }
+
+    fn claim_within(&mut self, seat: &mut Seat<C, K, R, L, F, X, O>) -> Turn
+        requires { length self.old.table.flights + 3 ≤ self.old.table.spare }
+        ensures turn { Turns seat.old.shares seat.new.shares result }
+        ensures worker { seat.new.worker ≡ seat.old.worker }
+    {
+        let Locked {
+            alloc,
+            table,
+            books,
+        } = self;
+        match draw(table, seat.worker) {
+            Claimed::Over => {
+                books.add_over(&mut seat.shares);
+                Turn::Over
+            }
+            Claimed::Idle => Turn::Idle,
+            Claimed::Task(ticket) => {
+                let fetch = is_fetch(&ticket);
+                books.add_claim(&mut seat.shares, fetch);
+                match work_of(*alloc, table, &ticket) {
+                    Ok(work) => Turn::Work(ticket, work),
+                    Err(_) => {
+                        if put_back(table, ticket) {
+                            books.add_release(&mut seat.shares);
+                        }
+                        Turn::Memory
+                    }
+                }
+            }
+        }
+    }
+
+    /// Whether a claim would wait.
+    pub(crate) fn is_idle(&mut self) -> bool {
+        self.table.idle()
+    }
+
+    /// One release, or none where the serial is not in flight.
+    pub(crate) fn release(&mut self, seat: &mut Seat<C, K, R, L, F, X, O>, ticket: Ticket)
+        ensures frees { Frees seat.old.shares seat.new.shares }
+        ensures worker { seat.new.worker ≡ seat.old.worker }
+    {
+        let Locked {
+            alloc: _,
+            table,
+            books,
+        } = self;
+        if put_back(table, ticket) {
+            books.add_release(&mut seat.shares);
+        }
+    }
+
+    /// One delivery, or none where memory is wanting.
+    pub(crate) fn deliver(
+        &mut self,
+        seat: &mut Seat<C, K, R, L, F, X, O>,
+        ticket: Ticket,
+        news: News,
+    ) -> Taken
+        requires { Brings W.told W.shelved news }
+        ensures hands { Hands seat.old.shares seat.new.shares news result }
+        ensures worker { seat.new.worker ≡ seat.old.worker }
+    {
+        let Some(need) = self.table.in_flight().checked_add(1) else {
+            return Taken::Memory(ticket, news);
+        };
+        if self.table.reserve(need).is_err() {
+            return Taken::Memory(ticket, news);
+        }
+        self.deliver_within(seat, ticket, news)
+    }
+
+    fn deliver_within(
+        &mut self,
+        seat: &mut Seat<C, K, R, L, F, X, O>,
+        ticket: Ticket,
+        news: News,
+    ) -> Taken
+        requires brings { Brings W.told W.shelved news }
+        requires room { length self.old.table.flights + 1 ≤ self.old.table.spare }
+        ensures hands { Hands seat.old.shares seat.new.shares news result }
+        ensures worker { seat.new.worker ≡ seat.old.worker }
+    {
+        let Locked {
+            alloc: _,
+            table,
+            books,
+        } = self;
+        let failed = tells_failure(&news);
+        match hand_in(table, ticket, news) {
+            Taken::Kept => {
+                books.add_kept(&mut seat.shares, failed);
+                Taken::Kept
+            }
+            Taken::Late(ticket, serial) => {
+                books.add_late(&mut seat.shares);
+                Taken::Late(ticket, serial)
+            }
+            Taken::Memory(ticket, news) => Taken::Memory(ticket, news),
+        }
+    }
+}

@@ -1,0 +1,187 @@
+//! The table, which workers share by reference.
+
+ghost use Rattle.std.specs.Prelude.{◌≡◌, ◌<◌, [], map, All, IfOk, vec_len};
+ghost use Rattle.dh_table.specs.Calls.{failures};
+ghost use Rattle.dh_table.specs.States.{state_of};
+ghost use Rattle.dh_shared.specs.Closed.{Closes};
+ghost use Rattle.dh_shared.specs.Held.{none_held, sum_held};
+ghost use Rattle.dh_shared.specs.Turns.{Turns, Hands, Frees, Brings};
+
+use crate::books::{Blanks, Books, Seat, Shares};
+use crate::locks::Locked;
+use crate::turns::Turn;
+use dh_ports::World;
+use dh_table::{News, Table, Taken, Ticket};
+use std::alloc::{AllocError, Global};
+use std::sync::ledger::Ledger;
+use std::sync::{Condvar, Mutex, Wait};
+
+/// The table of one run under one lock, with its seven books.
+#[derive(Drop)]
+pub struct SharedTable<
+    W,
+    C: Ledger,
+    K: Ledger,
+    R: Ledger,
+    L: Ledger,
+    F: Ledger,
+    X: Ledger,
+    O: Ledger,
+> {
+    locked: Mutex<Locked<W, C, K, R, L, F, X, O>>,
+    changed: Condvar,
+}
+
+impl<
+    W: World,
+    C: Ledger,
+    K: Ledger,
+    R: Ledger,
+    L: Ledger,
+    F: Ledger,
+    X: Ledger,
+    O: Ledger,
+> SharedTable<W, C, K, R, L, F, X, O> {
+    /// Puts a table before its first step under a lock, with a seat for each worker.
+    pub fn open(
+        alloc: Global,
+        table: Table<W>,
+        workers: u32,
+        blanks: Blanks,
+    ) -> Result<
+        (
+            SharedTable<W, C, K, R, L, F, X, O>,
+            Vec<Seat<C, K, R, L, F, X, O>>,
+        ),
+        AllocError,
+    >
+        requires fresh { (table.history ≡ []) × (failures (state_of table) ≡ 0) }
+        requires some { 0 < workers }
+        requires claims { (blanks.claims.name ≡ C.name) × (blanks.claims.parts ≡ C.parts) × (C.parts ≡ workers) }
+        requires kept { (blanks.kept.name ≡ K.name) × (blanks.kept.parts ≡ K.parts) × (K.parts ≡ workers) }
+        requires releases { (blanks.releases.name ≡ R.name) × (blanks.releases.parts ≡ R.parts) × (R.parts ≡ workers) }
+        requires lates { (blanks.lates.name ≡ L.name) × (blanks.lates.parts ≡ L.parts) × (L.parts ≡ workers) }
+        requires fetches { (blanks.fetches.name ≡ F.name) × (blanks.fetches.parts ≡ F.parts) × (F.parts ≡ workers) }
+        requires failed { (blanks.failed.name ≡ X.name) × (blanks.failed.parts ≡ X.parts) × (X.parts ≡ workers) }
+        requires overs { (blanks.overs.name ≡ O.name) × (blanks.overs.parts ≡ O.parts) × (O.parts ≡ workers) }
+        ensures count { IfOk result (λ r. vec_len r.1 ≡ workers) }
+        ensures new { IfOk result (λ r. All (λ seat. seat.shares ≡ none_held 1) r.1.items) }
+    {
+        let (books, mut rest) = Books::open(blanks, u64::from(workers));
+        let mut seats = Vec::with_capacity(alloc, workers as usize)?;
+        for worker in 0..workers {
+            let shares = rest.split_one();
+            seats.push(Seat { worker, shares })?;
+        }
+        let locked = lock_up(alloc, table, books);
+        Ok((
+            SharedTable {
+                locked: Mutex::new(locked),
+                changed: Condvar::new(),
+            },
+            seats,
+        ))
+    }
+
+    /// One claim under the lock.
+    pub fn claim<T: Wait>(&self, rt: &T, seat: &mut Seat<C, K, R, L, F, X, O>) -> Turn
+        ensures turn { Turns seat.old.shares seat.new.shares result }
+        ensures worker { seat.new.worker ≡ seat.old.worker }
+    {
+        self.locked.lock(rt).claim(seat)
+    }
+
+    /// Waits until a claim would not be idle.
+    pub fn wait<T: Wait>(&self, rt: &T, _seat: &Seat<C, K, R, L, F, X, O>) {
+        let guard = self.locked.lock(rt);
+        self.changed
+            .wait_while(rt, guard, |locked| locked.is_idle());
+    }
+
+    /// One delivery under the lock, which wakes who waits.
+    pub fn deliver<T: Wait>(
+        &self,
+        rt: &T,
+        seat: &mut Seat<C, K, R, L, F, X, O>,
+        ticket: Ticket,
+        news: News,
+    ) -> Taken
+        requires { Brings W.told W.shelved news }
+        ensures hands { Hands seat.old.shares seat.new.shares news result }
+        ensures worker { seat.new.worker ≡ seat.old.worker }
+    {
+        let taken = self.locked.lock(rt).deliver(seat, ticket, news);
+        self.changed.notify_all();
+        taken
+    }
+
+    /// One release under the lock, which wakes who waits; none where the serial is not in flight.
+    pub fn release<T: Wait>(&self, rt: &T, seat: &mut Seat<C, K, R, L, F, X, O>, ticket: Ticket)
+        ensures frees { Frees seat.old.shares seat.new.shares }
+        ensures worker { seat.new.worker ≡ seat.old.worker }
+    {
+        self.locked.lock(rt).release(seat, ticket);
+        self.changed.notify_all();
+    }
+
+    /// The table, once all of its seats are back.
+    pub fn close(self, seats: Vec<Seat<C, K, R, L, F, X, O>>) -> Table<W>
+        requires some { 0 < vec_len seats }
+        requires all { (vec_len seats ≡ C.parts) × (vec_len seats ≡ K.parts) × (vec_len seats ≡ R.parts) × (vec_len seats ≡ L.parts) × (vec_len seats ≡ F.parts) × (vec_len seats ≡ X.parts) × (vec_len seats ≡ O.parts) }
+        ensures { Closes result (sum_held (map (λ seat. seat.shares) seats.items)) }
+    {
+        let SharedTable { locked, changed: _ } = self;
+        let all = merge_all(seats);
+        audited(locked.into_inner(), all)
+    }
+}
+
+fn lock_up<W, C: Ledger, K: Ledger, R: Ledger, L: Ledger, F: Ledger, X: Ledger, O: Ledger>(
+    alloc: Global,
+    table: Table<W>,
+    books: Books<C, K, R, L, F, X, O>,
+) -> Locked<W, C, K, R, L, F, X, O>
+    requires fresh { (table.history ≡ []) × (failures (state_of table) ≡ 0) }
+    requires books { books ≡ none_held 0 }
+{
+    Locked {
+        alloc,
+        table,
+        books,
+    }
+}
+
+fn audited<W, C: Ledger, K: Ledger, R: Ledger, L: Ledger, F: Ledger, X: Ledger, O: Ledger>(
+    locked: Locked<W, C, K, R, L, F, X, O>,
+    all: Shares<C, K, R, L, F, X, O>,
+) -> Table<W>
+    requires { (all.parts ≡ C.parts) × (all.parts ≡ K.parts) × (all.parts ≡ R.parts) × (all.parts ≡ L.parts) × (all.parts ≡ F.parts) × (all.parts ≡ X.parts) × (all.parts ≡ O.parts) }
+    ensures { Closes result all }
+{
+    let Locked {
+        alloc: _,
+        table,
+        mut books,
+    } = locked;
+    let mut all = all;
+    books.audit(&mut all);
+    table
+}
+
+fn merge_all<C: Ledger, K: Ledger, R: Ledger, L: Ledger, F: Ledger, X: Ledger, O: Ledger>(
+    seats: Vec<Seat<C, K, R, L, F, X, O>>,
+) -> Shares<C, K, R, L, F, X, O>
+    requires { 0 < vec_len seats }
+    ensures parts { result.parts ≡ vec_len seats }
+    ensures sums { result ≡ sum_held (map (λ seat. seat.shares) seats.items) }
+{
+    let mut seats = seats;
+    let Some(last) = seats.pop() else {
+        unreachable!()
+    };
+    let mut all = last.into_shares();
+    while let Some(seat) = seats.pop() {
+        all.merge(seat.into_shares());
+    }
+    all
+}

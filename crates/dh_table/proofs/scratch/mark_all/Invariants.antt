@@ -1,0 +1,11 @@
+use Rattle.std.specs.Prelude.{◌≤◌, ◌-◌, length, max}
+use Rattle.dh_table.proofs.scratch.mark_all.Given as goal
+
+abbrev pub invariant-loop-marks : goal.invariant-loop-marks
+invariant-loop-marks l = record {
+  more : length l.fn.marks ≤ length l.marks;
+  most : length l.marks ≤ max (length l.fn.marks) l.len;
+}
+
+abbrev pub decreases-loop-marks : goal.decreases-loop-marks
+decreases-loop-marks l = l.len - length l.marks

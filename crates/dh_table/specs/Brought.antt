@@ -1,0 +1,79 @@
+-- What a worker may bring.
+use Rattle.std.specs.Prelude.{◌≡◌, ℕ, List, Option, Some, None, Ok, Err, ⊤}
+use Rattle.dh_syntax.specs.declared.locations.Digest.{Digest}
+use Rattle.dh_syntax.specs.declared.locations.Loc.{Loc}
+use Rattle.dh_syntax.specs.Expressions.Bridge.{term}
+use Rattle.dh_syntax.specs.Expressions.Tree.{Term}
+use Rattle.dh_syntax.specs.Imports.Records as found
+use Rattle.dh_syntax.specs.Imports.Records.{IsGood}
+use Rattle.dh_syntax.specs.Imports.Walk.{keys_of}
+use Rattle.dh_syntax.specs.Text.Spelling.{ParsesTo}
+use Rattle.dh_ports.specs.Desks.{Tells, shown}
+use Rattle.dh_ports.specs.declared.worlds.Got.{Got}
+use Rattle.dh_ports.specs.declared.worlds.Got.TheVariants as gots
+use Rattle.dh_table.specs.declared.entries.Seen.{Seen}
+use Rattle.dh_table.specs.declared.entries.Seen.TheVariants as seens
+use Rattle.dh_table.specs.declared.news.News.{News}
+use Rattle.dh_table.specs.declared.news.News.TheVariants as news
+use Rattle.dh_table.specs.declared.news.Noted.{Noted}
+use Rattle.dh_table.specs.declared.news.Noted.TheVariants as noteds
+use Rattle.dh_table.specs.declared.news.Parsed.{Parsed}
+use Rattle.dh_table.specs.declared.news.Parsed.TheVariants as parseds
+
+-- ---- texts
+
+-- these bytes, found at this location, parse to this, with the chained key of each import in the tree's order
+abbrev pub IsParse : Loc → List ℕ → Parsed → Type 0
+IsParse l bytes (parseds.Good e ks) = ParsesTo bytes (Ok (term e)) × (ks ≡ keys_of (Some l) (term e))
+IsParse l bytes (parseds.Bad f) = ParsesTo bytes (Err f)
+
+-- what found bytes parse to, and nothing where no bytes were found
+abbrev pub IsScanned : Loc → Noted → Option Parsed → Type 0
+IsScanned l (noteds.Got (gots.Found f)) (Some p) = IsParse l f.bytes p
+IsScanned l (noteds.Got (gots.Found f)) None = ⊥
+IsScanned l (noteds.Got gots.Absent) scan = scan ≡ None
+IsScanned l (noteds.Got (gots.Broken n)) scan = scan ≡ None
+IsScanned l noteds.Failed scan = scan ≡ None
+
+-- what is told, if anything is told, or that the device failed
+abbrev pub IsTold : Option Got → Noted → Type 0
+IsTold told (noteds.Got got) = Tells told got
+IsTold told noteds.Failed = ⊤
+
+-- a text, in a world that tells this of texts
+abbrev pub BringsText : (Loc → Option Got) → News → Type 0
+BringsText told (news.Fetched l got scan) = IsTold (told l) got × IsScanned l got scan
+BringsText told (news.Looked d look) = ⊥
+BringsText told (news.Finished done) = ⊥
+
+-- ---- looks
+
+-- a good entry has this digest
+abbrev pub IsOfDigest : Digest → Seen → Type 0
+IsOfDigest d (seens.Good e) = e.digest ≡ d
+IsOfDigest d seens.Miss = ⊤
+IsOfDigest d seens.Failed = ⊤
+
+-- what is seen of these bytes, if there are any: they are a good entry, or it is a miss
+abbrev pub IsSeen : Digest → Option (List ℕ) → Seen → Type 0
+IsSeen d entry (seens.Good e) = entry ≡ Some e.bytes
+IsSeen d entry seens.Miss = (bytes : List ℕ) (e : Term) → entry ≡ Some bytes → ¬ IsGood d (found.Good bytes e)
+IsSeen d entry seens.Failed = ⊤
+
+-- what is seen of the entry that is told, if anything is told; one that is too large is none
+abbrev pub IsShelved : Digest → Option (Option (List ℕ)) → Seen → Type 0
+IsShelved d None look = ⊤
+IsShelved d (Some entry) look = IsSeen d (shown entry) look
+
+-- a look, in a world that tells this of the cache
+abbrev pub BringsLook : (Digest → Option (Option (List ℕ))) → News → Type 0
+BringsLook shelved (news.Looked d look) = IsOfDigest d look × IsShelved d (shelved d) look
+BringsLook shelved (news.Fetched l got scan) = ⊥
+BringsLook shelved (news.Finished done) = ⊥
+
+-- ---- outcomes
+
+abbrev pub BringsOutcome : News → Type 0
+BringsOutcome (news.Finished done) = ⊤
+BringsOutcome (news.Fetched l got scan) = ⊥
+BringsOutcome (news.Looked d look) = ⊥

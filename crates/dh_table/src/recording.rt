@@ -1,0 +1,177 @@
+//! The steps that record news.
+
+ghost use Rattle.std.specs.Prelude.{◌≡◌, ◌+◌, ◌<◌, ◌≤◌, ◌^◌, ◌++◌, ◌∷◌, [], if◌then◌else◌, Some, IfOk, OnOk, OnErr, MatchOption, length, vec_len, vec_capacity};
+ghost use Rattle.dh_syntax.specs.Imports.Machine.{IsInTime};
+ghost use Rattle.dh_syntax.specs.Imports.Records.{IsGood};
+ghost use Rattle.dh_table.specs.Brought.{IsOfDigest, IsScanned};
+ghost use Rattle.dh_table.specs.Calls.{Records, StaysDecided};
+ghost use Rattle.dh_table.specs.Inside.Entering.{keys_in, entered_all, AreMore, AreEdges};
+ghost use Rattle.dh_table.specs.Inside.Recording.{imports_of, read_of};
+ghost use Rattle.dh_table.specs.States.{key_named, rows_of, seen_by, state_of, news_of};
+ghost use Rattle.dh_table.specs.Tables.{IsRoomy};
+
+use crate::entering::enter_all;
+use crate::entrants::Entrants;
+use crate::entries::Seen;
+use crate::items::Done;
+use crate::news::{News, Noted, Parsed};
+use crate::scratch::Scratch;
+use crate::steps::Step;
+use crate::tables::{Table, put};
+use crate::texts::{Look, Text};
+use dh_demand::{Edges, Scan};
+use dh_syntax::{Digest, Key, Loc, ParseFault};
+use std::alloc::AllocError;
+
+impl<W> Table<W> {
+    // The step that records a look. Where memory is wanting, the table stays as it was, and the look is handed back.
+    pub(crate) fn land_look(&mut self, serial: u64, digest: Digest, look: Seen) -> Option<News>
+        requires digest { IsOfDigest digest look }
+        requires in_time { IsInTime (state_of self.old) serial (news_of (News.Looked digest look)) }
+        requires room { length self.old.flights + 1 ≤ self.old.spare }
+        ensures lands { MatchOption result (Records serial (news_of (News.Looked digest look)) self.old self.new) (λ n. (n ≡ News.Looked digest look) × (self.new ≡ self.old)) }
+        ensures decided { StaysDecided self.old self.new }
+    {
+        if self.looks.reserve(1).is_err() {
+            return Some(News::Looked { digest, look });
+        }
+        tell_good(&digest, &look);
+        put(&mut self.looks, Look { digest, look });
+        self.flights.retain(|flight| flight.serial != serial);
+        put(&mut self.history, Step::Looked { serial });
+        None
+    }
+
+    // The step that records a text. Where memory is wanting, the table stays as it was, and the text is handed back.
+    pub(crate) fn land_text(
+        &mut self,
+        serial: u64,
+        loc: Loc,
+        got: Noted,
+        scan: Option<Parsed>,
+    ) -> Option<News>
+        requires scanned { IsScanned loc got scan }
+        requires in_time { IsInTime (state_of self.old) serial (news_of (News.Fetched loc got scan)) }
+        requires room { length self.old.flights + 1 ≤ self.old.spare }
+        ensures lands { MatchOption result (Records serial (news_of (News.Fetched loc got scan)) self.old self.new) (λ n. (n ≡ News.Fetched loc got scan) × (self.new ≡ self.old)) }
+        ensures decided { StaysDecided self.old self.new }
+    {
+        let Table {
+            keys,
+            texts,
+            scratch,
+            flights,
+            history,
+            ..
+        } = self;
+        match room_for(keys, texts, scratch, &loc, imports_of(&scan)) {
+            Ok(edges) => {
+                let read = read_of(scan, edges);
+                put(texts, Text { loc, got, read });
+                flights.retain(|flight| flight.serial != serial);
+                put(history, Step::Fetched { serial });
+                None
+            }
+            Err(_) => Some(News::Fetched { loc, got, scan }),
+        }
+    }
+
+    // The step that decides the key of this number.
+    pub(crate) fn land_outcome(&mut self, serial: u64, n: u32, done: Done)
+        requires inside { n < length self.old.keys }
+        requires named { key_named self.old.keys n ≡ done.item.key }
+        requires in_time { IsInTime (state_of self.old) serial (news_of (News.Finished done)) }
+        requires room { length self.old.flights + 1 ≤ self.old.spare }
+        ensures lands { Records serial (news_of (News.Finished done)) self.old self.new }
+        ensures decided { StaysDecided self.old self.new }
+    {
+        done.is_last();
+        done.has_value();
+        let limited = done.is_limit();
+        self.keys.decide(n, done.into_outcome());
+        put(&mut self.decided, n);
+        put_if(&mut self.limited, limited, n);
+        self.flights.retain(|flight| flight.serial != serial);
+        put(&mut self.history, Step::Finished { serial });
+    }
+}
+
+// Adds a number, or not, where there is room.
+fn put_if(v: &mut Vec<u32>, on: bool, n: u32)
+    requires { vec_len v.old < vec_capacity v.old }
+    ensures items { v.new.items ≡ (if on then v.old.items ++ n ∷ [] else v.old.items) }
+    ensures len { vec_len v.new ≤ vec_len v.old + 1 }
+    ensures room { vec_capacity v.old ≤ vec_capacity v.new }
+{
+    if on {
+        put(v, n);
+    }
+}
+
+// A good entry of a digest is one.
+fn tell_good(digest: &Digest, look: &Seen)
+    requires { IsOfDigest digest.now look.now }
+    ensures { IsGood digest.now (seen_by look.now) }
+{
+    match look {
+        Seen::Good(entry) => entry.is_good(),
+        Seen::Miss | Seen::Failed => {}
+    }
+}
+
+// The keys of the imports of a text.
+fn imports_of(scan: &Option<Parsed>) -> &[Key]
+    ensures { result.now ≡ imports_of scan.now }
+{
+    match scan {
+        Some(Parsed::Good { expr: _, keys }) => keys.as_slice(),
+        Some(Parsed::Bad(_)) | None => &[],
+    }
+}
+
+// A text with the edges of its imports.
+fn read_of(scan: Option<Parsed>, edges: Edges) -> Option<Result<Scan, ParseFault>>
+    ensures { result ≡ read_of scan edges }
+{
+    match scan {
+        Some(Parsed::Good { expr, keys: _ }) => Some(Ok(Scan { expr, edges })),
+        Some(Parsed::Bad(fault)) => Some(Err(fault)),
+        None => None,
+    }
+}
+
+// Room for one more text at a location, and numbers for the keys of its imports. Where memory is wanting, all but the room is
+// as it was.
+fn room_for(
+    keys: &mut Entrants,
+    texts: &mut Vec<Text>,
+    scratch: &mut Scratch,
+    loc: &Loc,
+    imports: &[Key],
+) -> Result<Edges, AllocError>
+    requires few { length keys.old ≤ 2 ^ 32 }
+    requires scratch { IsRoomy (length keys.old) scratch.old }
+    ensures few { length keys.new ≤ 2 ^ 32 }
+    ensures entered { OnOk result (AreMore keys.old (entered_all (keys_in keys.old) imports.now) keys.new) }
+    ensures edges { IfOk result (λ es. AreEdges (Some loc.now) (rows_of keys.new) imports.now es) }
+    ensures same { OnErr result (keys.new ≡ keys.old) }
+    ensures items { texts.new.items ≡ texts.old.items }
+    ensures len { vec_len texts.new ≡ vec_len texts.old }
+    ensures room { OnOk result (vec_len texts.new < vec_capacity texts.new) }
+    ensures scratch { IsRoomy (length keys.new) scratch.new }
+{
+    texts.reserve(1)?;
+    let alloc = *texts.allocator();
+    let count = keys.len();
+    let entered = match enter_all(alloc, keys, imports, Some(loc)) {
+        Ok(edges) => match scratch.grow(keys.len()) {
+            Ok(()) => Ok(edges),
+            Err(fault) => Err(fault),
+        },
+        Err(fault) => Err(fault),
+    };
+    if entered.is_err() {
+        keys.truncate(count);
+    }
+    entered
+}
