@@ -95,5 +95,8 @@ fn a_text_without_imports_is_ready(rt: HostRuntime) -> Result<(), Fail> {
     assert!(rt; !marks.is_set(0));
     let value = assemble(alloc, &scan, &results)?;
     assert!(rt; matches!(&value, Expr::Node(Op::Nat(3), _)));
+    assert!(rt; is_assembled(&scan, &results, &value));
+    let other = Expr::Node(Op::Nat(4), Many::new(alloc));
+    assert!(rt; !is_assembled(&scan, &results, &other));
     Ok(())
 }

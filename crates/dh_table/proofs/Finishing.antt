@@ -1,7 +1,6 @@
 -- A finish: its item is the key's own, and its outcome is that of the last step or a limit that is licensed.
-use Rattle.std.specs.Prelude.{◌≡◌, ◌<◌, ◌≤◌, ◌+◌, ◌-◌, ◌++◌, min, ℕ, Bool, true, false, if◌then◌else◌, List, [], ◌∷◌, All, Option, Some, None, refl}
+use Rattle.std.specs.Prelude.{◌≡◌, ◌<◌, ◌≤◌, ◌+◌, ◌-◌, ◌++◌, min, ℕ, Bool, true, false, if◌then◌else◌, List, [], ◌∷◌, All, Some, None, refl}
 use Rattle.std.proofs.Common.{ap, sym, ◌∙◌, subst, arith}
-use Rattle.dh_syntax.specs.declared.expressions.Expr.{Expr}
 use Rattle.dh_syntax.specs.declared.locations.Key.{Key}
 use Rattle.dh_syntax.specs.declared.outcomes.Outcome as program
 use Rattle.dh_syntax.specs.declared.outcomes.Outcome.TheVariants as variants

@@ -1,6 +1,6 @@
 -- Whether an item is that of a key which is due.
-use Rattle.std.specs.Prelude.{◌≡◌, ℕ, Bool, true, false, not, ◌&&◌, List, Option, Some, None, Result, Ok, Err, refl}
-use Rattle.std.proofs.Common.{ap, sym, ◌∙◌, subst}
+use Rattle.std.specs.Prelude.{◌≡◌, ℕ, Bool, true, false, not, ◌&&◌, List, Option, Some, Result, Ok, refl}
+use Rattle.std.proofs.Common.{ap, sym, ◌∙◌}
 use Rattle.dh_syntax.specs.declared.expressions.Expr.{Expr}
 use Rattle.dh_syntax.specs.declared.faults.ParseFault.{ParseFault}
 use Rattle.dh_syntax.specs.declared.locations.Key.{Key}
@@ -16,10 +16,8 @@ use Rattle.dh_ports.specs.declared.worlds.Found.{Found}
 use Rattle.dh_ports.specs.declared.worlds.Got.{Got}
 use Rattle.dh_ports.specs.declared.worlds.Got.TheVariants as gots
 use Rattle.dh_demand.specs.declared.scans.Scan.{Scan}
-use Rattle.dh_table.specs.declared.items.Body.{Body}
 use Rattle.dh_table.specs.declared.items.Body.TheVariants as body
 use Rattle.dh_table.specs.declared.items.Item.{Item}
-use Rattle.dh_table.specs.declared.news.Noted.{Noted}
 use Rattle.dh_table.specs.declared.news.Noted.TheVariants as noteds
 use Rattle.dh_table.specs.declared.texts.Text.{Text}
 use Rattle.dh_table.specs.Inside.Equal.{are_due_on_one}

@@ -1,8 +1,7 @@
 -- The tests of equality of faults, origins and items are true exactly where the two are equal.
-use Rattle.std.specs.Prelude.{◌≡◌, ℕ, Bool, true, false, ◌&&◌, ◌==◌, Option, Some, None, refl}
+use Rattle.std.specs.Prelude.{◌≡◌, ℕ, true, ◌==◌, Option, Some, None, refl}
 use Rattle.std.specs.Bool.{Decides}
-use Rattle.std.proofs.Common.{ap, sym, ◌∙◌, subst}
-use Rattle.std.proofs.lemmas.Bool.{false≢true}
+use Rattle.std.proofs.Common.{ap, sym, subst}
 use Rattle.std.proofs.lemmas.Bool.Decides.{Decides-eqb}
 use Rattle.dh_syntax.specs.declared.faults.NormFault.{NormFault}
 use Rattle.dh_syntax.specs.declared.faults.NormFault.TheVariants as norms
@@ -10,23 +9,21 @@ use Rattle.dh_syntax.specs.declared.faults.ParseFault.{ParseFault}
 use Rattle.dh_syntax.specs.declared.faults.ParseFault.TheVariants as parses
 use Rattle.dh_syntax.specs.declared.faults.TypeFault.{TypeFault}
 use Rattle.dh_syntax.specs.declared.faults.TypeFault.TheVariants as types
-use Rattle.dh_syntax.specs.declared.faults.Ill.{Ill}
 use Rattle.dh_syntax.specs.declared.locations.Key.{Key}
 use Rattle.dh_syntax.specs.declared.outcomes.Blame.{Blame}
 use Rattle.dh_syntax.specs.declared.outcomes.Origin.{Origin}
 use Rattle.dh_syntax.specs.declared.outcomes.Origin.TheVariants as origins
 use Rattle.dh_syntax.specs.declared.outcomes.Why.{Why}
 use Rattle.dh_syntax.specs.declared.outcomes.Why.TheVariants as whys
-use Rattle.dh_syntax.specs.Expressions.Bridge.{term}
 use Rattle.dh_syntax.specs.Expressions.Numbers.{bytes_eq}
-use Rattle.dh_syntax.specs.Expressions.SameTree.{option_eq, digest_eq, loc_eq, term_eq}
+use Rattle.dh_syntax.specs.Expressions.SameTree.{option_eq, digest_eq, term_eq}
 use Rattle.dh_syntax.specs.Imports.Keys.{key_eq}
 use Rattle.dh_syntax.specs.Imports.LastStep as last
 use Rattle.dh_syntax.specs.Imports.Machine.{IsDue}
 use Rattle.dh_syntax.specs.Imports.Resolver.{Stage, Lacks, Has, Meets, Waits}
 use Rattle.dh_syntax.proofs.Numbers.{and-true_left, and-true_right}
 use Rattle.dh_syntax.proofs.SameTree.{Tells, bytes_tell, options_tell, digests_tell, locs_tell, terms_tell}
-use Rattle.dh_laws.proofs.KeyOrder.{none-some, some-equal, key_eq-true, key_eq-itself}
+use Rattle.dh_laws.proofs.KeyOrder.{none-some, key_eq-true, key_eq-itself}
 use Rattle.dh_table.specs.declared.items.Body.{Body}
 use Rattle.dh_table.specs.declared.items.Body.TheVariants as body
 use Rattle.dh_table.specs.declared.items.Item.{Item}

@@ -1,7 +1,7 @@
 //! Tests: a root without imports, two imports of one key, a task that is put back, a frozen key, and news that is recorded or
 //! comes too late.
 
-ghost use Rattle.std.specs.Prelude.{◌≡◌, None, IfOk};
+ghost use Rattle.std.specs.Prelude.{◌≡◌, ◌+◌, ◌≤◌, None, IfOk, OnOk, length};
 ghost use Rattle.dh_syntax.specs.declared.expressions.Op.TheVariants as ops;
 ghost use Rattle.dh_syntax.specs.Expressions.Bridge.{term};
 ghost use Rattle.dh_syntax.specs.Expressions.Tree.{Node, end};
@@ -131,26 +131,64 @@ fn one_finished(alloc: Global) -> Result<News, AllocError>
     Ok(News::Finished(Done::of(item, outcome)))
 }
 
-/// Delivers a text, with the room that it needs.
-fn fetched(table: &mut Table<Silent>, ticket: Ticket, news: News) -> Result<Taken, AllocError>
-    requires { BringsText (λ _. None) news }
+/// Makes room for one more step.
+fn make_room(table: &mut Table<Silent>) -> Result<(), AllocError>
+    ensures { OnOk result (length table.new.flights + 1 ≤ table.new.spare) }
 {
     let Some(room) = table.in_flight().checked_add(1) else {
         return Err(AllocError);
     };
-    table.reserve(room)?;
+    table.reserve(room)
+}
+
+/// Whether news is recorded.
+fn is_kept(taken: Taken) -> bool {
+    match taken {
+        Taken::Kept => true,
+        Taken::Late(_ticket, _serial) => false,
+        Taken::Memory(_ticket, _news) => false,
+    }
+}
+
+/// Whether news is late, and nothing is in flight for what it names.
+fn is_unknown(taken: Taken) -> bool {
+    match taken {
+        Taken::Kept => false,
+        Taken::Late(_ticket, serial) => serial == 0,
+        Taken::Memory(_ticket, _news) => false,
+    }
+}
+
+/// Delivers the text `1` of `./a`.
+fn fetch_one(
+    alloc: Global,
+    table: &mut Table<Silent>,
+    ticket: Ticket,
+) -> Result<Taken, AllocError> {
+    let news = one_fetched(alloc)?;
+    make_room(table)?;
     Ok(table.fetched(ticket, news))
 }
 
-/// Delivers an outcome, with the room that it needs.
-fn finished(table: &mut Table<Silent>, ticket: Ticket, news: News) -> Result<Taken, AllocError>
-    requires { BringsOutcome news }
-{
-    let Some(room) = table.in_flight().checked_add(1) else {
-        return Err(AllocError);
-    };
-    table.reserve(room)?;
+/// Delivers the value `1` of `./a`.
+fn finish_one(
+    alloc: Global,
+    table: &mut Table<Silent>,
+    ticket: Ticket,
+) -> Result<Taken, AllocError> {
+    let news = one_finished(alloc)?;
+    make_room(table)?;
     Ok(table.finished(ticket, news))
+}
+
+/// Claims the fetch and the finish of `./a` and delivers both; whether both were kept, and a claim between had to wait.
+fn resolve_one(alloc: Global, table: &mut Table<Silent>) -> Result<bool, AllocError> {
+    let ticket = task(table, 1)?;
+    let waited = is_waiting(table)?;
+    let text = is_kept(fetch_one(alloc, table, ticket)?);
+    let ticket = task(table, 2)?;
+    let value = is_kept(finish_one(alloc, table, ticket)?);
+    Ok(waited && text && value)
 }
 
 /// Whether a claim finds the root decided.
@@ -228,14 +266,8 @@ fn a_frozen_key_is_looked_up_first(rt: HostRuntime) -> Result<(), Fail> {
 fn a_text_is_recorded_and_its_key_finished(rt: HostRuntime) -> Result<(), Fail> {
     let alloc = rt.alloc();
     let mut table = importing(alloc)?;
-    let ticket = task(&mut table, 1)?;
-    let waited = is_waiting(&mut table)?;
-    assert!(rt; waited);
-    let taken = fetched(&mut table, ticket, one_fetched(alloc)?)?;
-    assert!(rt; matches!(taken, Taken::Kept));
-    let ticket = task(&mut table, 2)?;
-    let taken = finished(&mut table, ticket, one_finished(alloc)?)?;
-    assert!(rt; matches!(taken, Taken::Kept));
+    let kept = resolve_one(alloc, &mut table)?;
+    assert!(rt; kept);
     let decided = is_decided(&mut table)?;
     assert!(rt; decided);
     let wanted = [
@@ -262,8 +294,8 @@ fn news_on_the_ticket_of_another_table_is_late(rt: HostRuntime) -> Result<(), Fa
     let mut table = importing(alloc)?;
     let mut other = importing(alloc)?;
     let ticket = task(&mut table, 1)?;
-    let taken = fetched(&mut other, ticket, one_fetched(alloc)?)?;
-    assert!(rt; matches!(taken, Taken::Late(_, 0)));
+    let late = is_unknown(fetch_one(alloc, &mut other, ticket)?);
+    assert!(rt; late);
     let wanted = [Step::Late { serial: 1 }];
     assert!(rt; other.history() == wanted.as_slice());
     Ok(())

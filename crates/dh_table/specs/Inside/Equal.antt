@@ -1,5 +1,5 @@
 -- Whether two faults, origins or items are equal.
-use Rattle.std.specs.Prelude.{ℕ, Bool, true, false, ◌&&◌, ◌==◌, Option, Some, None}
+use Rattle.std.specs.Prelude.{Bool, true, false, ◌&&◌, ◌==◌, Option}
 use Rattle.dh_syntax.specs.declared.faults.NormFault.{NormFault}
 use Rattle.dh_syntax.specs.declared.faults.NormFault.TheVariants as norms
 use Rattle.dh_syntax.specs.declared.faults.ParseFault.{ParseFault}

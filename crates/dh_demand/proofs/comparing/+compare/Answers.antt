@@ -1,4 +1,4 @@
-use Rattle.std.proofs.Common.{rules, arith, length, sym, ap, ◌∙◌, drop, refl, Some, None, subst as along}
+use Rattle.std.proofs.Common.{rules, arith, length, sym, ap, ◌∙◌, drop, refl, Some, subst as along}
 use Rattle.std.specs.Option.{option_copied, option_map}
 use Rattle.dh_syntax.specs.Expressions.Bridge.{term, row_of}
 use Rattle.dh_syntax.specs.Imports.Walk.{in_order, walk, walks, keys_of_row}

@@ -44,3 +44,9 @@ wanted-requires-clause-fits g c = literal_fits _ _ _ c.new.ensures c.new-2.ensur
 
 pub assemble-requires : goal.assemble-requires
 assemble-requires g c = literal_ready _ _ _ c.new.ensures c.new-2.ensures
+
+pub is_assembled-requires : goal.is_assembled-requires
+is_assembled-requires g c = literal_ready _ _ _ c.new.ensures c.new-2.ensures
+
+pub is_assembled-requires-2 : goal.is_assembled-requires-2
+is_assembled-requires-2 g c = literal_ready _ _ _ c.new.ensures c.new-2.ensures

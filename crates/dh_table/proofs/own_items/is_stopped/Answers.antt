@@ -1,4 +1,4 @@
-use Rattle.std.proofs.Common.{◌≡◌, ap, sym, ◌∙◌, Some, subst as along}
+use Rattle.std.proofs.Common.{ap, sym, ◌∙◌, Some}
 use Rattle.std.specs.Option.{option_copied}
 use Rattle.dh_syntax.specs.declared.outcomes.Blame.{Blame}
 use Rattle.dh_syntax.specs.declared.outcomes.Outcome.{Outcome}

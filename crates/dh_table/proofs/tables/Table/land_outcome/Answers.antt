@@ -1,4 +1,4 @@
-use Rattle.std.proofs.Common.{rules, ◌≡◌, ◌<◌, ◌++◌, ◌∷◌, [], length, refl, ap, sym, ◌∙◌, append-nil, arith, vec_len, vec_capacity, subst as along}
+use Rattle.std.proofs.Common.{rules, ◌≡◌, ◌<◌, ◌++◌, ◌∷◌, [], length, refl, ap, sym, ◌∙◌, append-nil, vec_len, vec_capacity, subst as along}
 use Rattle.std.specs.Prelude.{ℕ, ◌≤◌, ◌+◌, if◌then◌else◌, map, filter, All, None}
 use Rattle.std.proofs.lemmas.Fn.{filter_same}
 use Rattle.dh_syntax.specs.declared.locations.Key.{Key}
@@ -12,7 +12,6 @@ use Rattle.dh_table.specs.declared.news.News.TheVariants as news
 use Rattle.dh_table.specs.declared.steps.Flight.{Flight}
 use Rattle.dh_table.specs.declared.steps.Job.{Job}
 use Rattle.dh_table.specs.declared.steps.Step.TheVariants as steps
-use Rattle.dh_table.specs.Calls.{Records}
 use Rattle.dh_table.specs.Inside.Entering.{decided_at}
 use Rattle.dh_table.specs.Items.{stage_of_item}
 use Rattle.dh_table.specs.Shown.{Shown}
