@@ -206,7 +206,7 @@ module _ (es : List Entrant) (n : ℕ) (o : program.Outcome) (l : n < length es)
 
 -- ---- a key without an outcome
 
-outcome_stands : (es : List Entrant) (n : ℕ) → n < length es → outcome_at (rows_of es) n ≡ Some (slice_index_or es n nobody).outcome
+pub outcome_stands : (es : List Entrant) (n : ℕ) → n < length es → outcome_at (rows_of es) n ≡ Some (slice_index_or es n nobody).outcome
 outcome_stands [] n l = absurd (omega arith)
 outcome_stands (e ∷ es) zero l = refl
 outcome_stands (e ∷ es) (suc n) l = outcome_stands es n (omega arith)

@@ -5,10 +5,11 @@ use Rattle.std.proofs.Common.{ap, sym, ◌∙◌, subst, arith, inl, inr, get_or
 use Rattle.std.proofs.lemmas.List.{length-map, get_or-map}
 use Rattle.dh_syntax.specs.declared.locations.Key.{Key}
 use Rattle.dh_syntax.specs.Imports.Keys.{key_eq, texts_before}
+use Rattle.dh_syntax.specs.Imports.Machine.{IsAmong}
 use Rattle.dh_laws.proofs.KeyOrder.{bool-case, true_false, none-some, key_eq-true, key_eq-itself}
 use Rattle.dh_demand.specs.Results.{number_of}
 use Rattle.dh_table.specs.declared.texts.Entrant.{Entrant}
-use Rattle.dh_table.specs.Inside.Sorting.{Rank, rank_of, rank_of_entrant, rank_at, IsOrder, IsRanked}
+use Rattle.dh_table.specs.Inside.Sorting.{Rank, rank_of, rank_of_entrant, rank_at, Ascends, IsOrder, IsRanked}
 use Rattle.dh_table.specs.States.{nobody, rows_of, key_named}
 use Rattle.dh_table.proofs.Numbering.{number_first}
 use Rattle.dh_table.proofs.RankOrder.{before_itself, key_told}
@@ -22,11 +23,11 @@ ranks_of es = map rank_of_entrant es
 pub rank_named : (es : List Entrant) (n : ℕ) → n < length es → rank_at (ranks_of es) n ≡ rank_of (key_named es n)
 rank_named es n l = get_or-map rank_of_entrant es n nobody [] l
 
--- in an order no two things have one rank
-pub one_rank : (ranks : List Rank) (ns : List ℕ) (m n : ℕ) → IsOrder ranks ns → m < length ranks → n < length ranks → rank_at ranks m ≡ rank_at ranks n → m ≡ n
-one_rank ranks ns m n o l k e =
-    let a = among_at m ns (o.complete m l) in
-    let b = among_at n ns (o.complete n k) in
+-- no two of these numbers are of things with one rank
+pub one_place : (ranks : List Rank) (ns : List ℕ) (m n : ℕ) → Ascends ranks ns → IsAmong m ns → IsAmong n ns → rank_at ranks m ≡ rank_at ranks n → m ≡ n
+one_place ranks ns m n up l k e =
+    let a = among_at m ns l in
+    let b = among_at n ns k in
     elim (three a.0 b.0) [
       | inl h ↦ absurd (clash m n a.0 b.0 a.2 b.2 h b.1 e)
       | inr r ↦ elim r [
@@ -43,8 +44,12 @@ one_rank ranks ns m n o l k e =
         true_false
         (subst (λ (y : Rank). texts_before y (rank_at ranks n) ≡ true) e
         (subst (λ (x : ℕ). texts_before (rank_at ranks m) (rank_at ranks x) ≡ true) q
-        (subst (λ (x : ℕ). texts_before (rank_at ranks x) (rank_at ranks (get_or ns j 0)) ≡ true) p (ascends_at ranks ns i j o.ascends h l))))
+        (subst (λ (x : ℕ). texts_before (rank_at ranks x) (rank_at ranks (get_or ns j 0)) ≡ true) p (ascends_at ranks ns i j up h l))))
         (before_itself (rank_at ranks n))
+
+-- in an order no two things have one rank
+pub one_rank : (ranks : List Rank) (ns : List ℕ) (m n : ℕ) → IsOrder ranks ns → m < length ranks → n < length ranks → rank_at ranks m ≡ rank_at ranks n → m ≡ n
+one_rank ranks ns m n o l k e = one_place ranks ns m n o.ascends (o.complete m l) (o.complete n k) e
 
 pub none_named : (es : List Entrant) (k : Key) (n : ℕ) → number_of (rows_of es) k ≡ None → n < length es → ¬ (key_named es n ≡ k)
 none_named [] k n h l e = omega arith

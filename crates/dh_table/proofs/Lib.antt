@@ -28,3 +28,7 @@ pub mod DueItems
 pub mod Fitting
 pub mod Working
 pub mod RootEnding
+pub mod Visiting
+pub mod LeastFresh
+pub mod KeptEntries
+pub mod Keeping

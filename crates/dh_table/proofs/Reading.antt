@@ -95,7 +95,7 @@ among-filter test a (x ∷ xs) m = go (test x) m (λ q. among-filter test a xs q
     go true (inr n) f = inr (f n)
     go false n f = inr (f n)
 
-begun : (parent : Option Loc) (rows : List Row) (ks : List Key) (es : List Edge) (k : Key) → Begins parent rows ks es → IsAmong k ks → IsNumbered rows k
+pub begun : (parent : Option Loc) (rows : List Row) (ks : List Key) (es : List Edge) (k : Key) → Begins parent rows ks es → IsAmong k ks → IsNumbered rows k
 begun parent rows [] es k b m = absurd m
 begun parent rows (j ∷ js) [] k b m = absurd b
 begun parent rows (j ∷ js) (e ∷ es) k b (inl p) = subst (IsNumbered rows) p (e.key, b.0.numbered)

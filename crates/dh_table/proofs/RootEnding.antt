@@ -1,17 +1,21 @@
 -- How the root of a table ends, against the end of its walk.
-use Rattle.std.specs.Prelude.{◌≡◌, true, false, if◌then◌else◌, Option, Some, None, IfSome, refl}
+use Rattle.std.specs.Prelude.{◌≡◌, ℕ, Bool, true, false, if◌then◌else◌, List, [], Option, Some, None, IfSome, refl}
 use Rattle.std.proofs.Common.{sym, subst}
 use Rattle.dh_syntax.specs.declared.expressions.Expr.{Expr}
+use Rattle.dh_syntax.specs.declared.locations.Digest.{Digest}
 use Rattle.dh_syntax.specs.declared.outcomes.Blame.{Blame}
 use Rattle.dh_syntax.specs.declared.outcomes.Why.TheVariants as whys
 use Rattle.dh_syntax.specs.Expressions.Bridge.{term}
 use Rattle.dh_syntax.specs.Expressions.Tree.{Term}
+use Rattle.dh_syntax.specs.Imports.Keeps.{AreKeeps}
 use Rattle.dh_syntax.specs.Imports.Machine.{State, root_walk}
 use Rattle.dh_syntax.specs.Imports.Replay.{RootEnd, too_many, has_too_many, root_end, end_of}
+use Rattle.dh_syntax.specs.Imports.Resolver.{resolve}
 use Rattle.dh_syntax.specs.Imports.Walk.{Walked, Ready, Fails, Turns, Needs}
 use Rattle.dh_table.specs.declared.roots.Ended.{Ended}
 use Rattle.dh_table.specs.declared.roots.Ended.TheVariants as ends
 use Rattle.dh_table.specs.Inside.Due.{IsBlame}
+use Rattle.dh_table.specs.Kept.{IsKeeping}
 use Rattle.dh_table.specs.Roots.{IsEnd}
 
 abbrev Ends : Option RootEnd → Ended → Type 0
@@ -34,3 +38,14 @@ blamed_end (Needs k) b p = absurd p
 
 pub bad_end : (s : State) (b : Blame) → has_too_many s ≡ false → IsBlame (root_walk s) b → IfSome (root_end s) (λ x. IsEnd x (ends.Bad b))
 bad_end s b h p = by_walk s (ends.Bad b) h (blamed_end (root_walk s) b p)
+
+-- ---- what is kept
+
+abbrev Keeps : State → Bool → Walked Term → List (Digest × List ℕ) → Type 0
+Keeps s b w kept = IsKeeping s (if b then Some too_many else end_of w) kept
+
+pub many_keep : (s : State) (kept : List (Digest × List ℕ)) → has_too_many s ≡ true → kept ≡ [] → IsKeeping s (root_end s) kept
+many_keep s kept h p = subst (λ b. Keeps s b (root_walk s) kept) (sym h) p
+
+pub ready_keep : (s : State) (v : Term) (kept : List (Digest × List ℕ)) → has_too_many s ≡ false → root_walk s ≡ Ready v → (n : ℕ) × AreKeeps s.recorded (resolve s.recorded n []) s.root kept → IsKeeping s (root_end s) kept
+ready_keep s v kept h w k = subst (λ b. Keeps s b (root_walk s) kept) (sym h) (subst (λ x. Keeps s false x kept) (sym w) k)

@@ -39,14 +39,14 @@ Below ranks x ns low = (i : ℕ) → i < low → IsBelow ranks x (slice_index_or
 abbrev pub Above : List Rank → Rank → List ℕ → ℕ → Type 0
 Above ranks x ns high = (i : ℕ) → high ≤ i → i < length ns → texts_before (rank_at ranks (slice_index_or ns i 0)) x ≡ false
 
-module _ (ranks : List Rank) (x : Rank) (ns : List ℕ) (o : IsOrder ranks ns) where
+module _ (ranks : List Rank) (x : Rank) (ns : List ℕ) (up : Ascends ranks ns) where
   abbrev at : ℕ → Rank
   at i = rank_at ranks (get_or ns i 0)
 
   pub further : (m : ℕ) → m < length ns → texts_before (rank_at ranks (get_or ns m 0)) x ≡ true → Below ranks x ns (m + 1)
   further m l h i k =
       elim (split_lt i m k) [
-        | inl p ↦ before_through (at i) (at m) x (ascends_at ranks ns i m o.ascends p l) h
+        | inl p ↦ before_through (at i) (at m) x (ascends_at ranks ns i m up p l) h
         | inr p ↦ subst (λ (n : ℕ). texts_before (rank_at ranks (get_or ns n 0)) x ≡ true) (sym p) h
       ]
     where
@@ -56,13 +56,14 @@ module _ (ranks : List Rank) (x : Rank) (ns : List ℕ) (o : IsOrder ranks ns) w
   pub nearer : (m : ℕ) → texts_before (rank_at ranks (get_or ns m 0)) x ≡ false → Above ranks x ns m
   nearer m h j k l =
       elim (split_le m j k) [
-        | inl p ↦ not_before (at j) x (λ q. true_false (before_through (at m) (at j) x (ascends_at ranks ns m j o.ascends p l) q) h)
+        | inl p ↦ not_before (at j) x (λ q. true_false (before_through (at m) (at j) x (ascends_at ranks ns m j up p l) q) h)
         | inr p ↦ subst (λ (n : ℕ). texts_before (rank_at ranks (get_or ns n 0)) x ≡ false) p h
       ]
     where
       split_le : (m j : ℕ) → m ≤ j → (m < j) ⊎ (m ≡ j)
       split_le m j k = grind arith
 
+module _ (ranks : List Rank) (x : Rank) (ns : List ℕ) (o : IsOrder ranks ns) where
   -- what is found at its place
   pub found_here : (p : ℕ) → IsPlace ranks x ns p → p < length ns → texts_before x (rank_at ranks (get_or ns p 0)) ≡ false → IsRanked ranks x (Some (get_or ns p 0))
   found_here p q l h = (All-get_or (λ (n : ℕ). n < length ranks) ns p 0 l o.inside, before_neither _ _ (q.above p (omega arith) l) h)
@@ -87,7 +88,7 @@ module _ (ranks : List Rank) (x : Rank) (ns : List ℕ) (o : IsOrder ranks ns) w
   found_other p q h b n l e =
       let r = at_place p n q l e in
       elim (split p r.0 r.1) [
-        | inl k ↦ true_false (before_through x (at p) x b (subst (λ (y : Rank). texts_before (rank_at ranks (get_or ns p 0)) y ≡ true) r.3 (ascends_at ranks ns p r.0 o.ascends k r.2))) (before_itself x)
+        | inl k ↦ true_false (before_through x (rank_at ranks (get_or ns p 0)) x b (subst (λ (y : Rank). texts_before (rank_at ranks (get_or ns p 0)) y ≡ true) r.3 (ascends_at ranks ns p r.0 o.ascends k r.2))) (before_itself x)
         | inr k ↦ true_false (subst (λ (y : Rank). texts_before x y ≡ true) (ap (λ (i : ℕ). rank_at ranks (get_or ns i 0)) k ∙ r.3) b) (before_itself x)
       ]
     where
@@ -119,7 +120,7 @@ ascends_alike ranks more (n ∷ ns) s a = (
 )
 
 -- a number between those below its rank and those above it
-ascends_between : (ranks : List Rank) (x : ℕ) (ns : List ℕ) (p : ℕ) → Ascends ranks ns
+pub ascends_between : (ranks : List Rank) (x : ℕ) (ns : List ℕ) (p : ℕ) → Ascends ranks ns
     → ((i : ℕ) → i < p → i < length ns → texts_before (rank_at ranks (get_or ns i 0)) (rank_at ranks x) ≡ true)
     → ((i : ℕ) → p ≤ i → i < length ns → texts_before (rank_at ranks x) (rank_at ranks (get_or ns i 0)) ≡ true)
     → Ascends ranks (insert ns p x)
@@ -135,17 +136,17 @@ ascends_between ranks x (n ∷ ns) (suc p) a below above = (
     all_insert P x [] (suc p) h a = All-cons P x [] h (All-nil P)
     all_insert P x (n ∷ ns) (suc p) h a = All-cons P n (insert ns p x) (All-head P n ns a) (all_insert P x ns p h (All-tail P n ns a))
 
-all_inserted : (P : ℕ → Type 0) (x : ℕ) (ns : List ℕ) (p : ℕ) → P x → All P ns → All P (insert ns p x)
+pub all_inserted : (P : ℕ → Type 0) (x : ℕ) (ns : List ℕ) (p : ℕ) → P x → All P ns → All P (insert ns p x)
 all_inserted P x ns zero h a = All-cons P x ns h a
 all_inserted P x [] (suc p) h a = All-cons P x [] h (All-nil P)
 all_inserted P x (n ∷ ns) (suc p) h a = All-cons P n (insert ns p x) (All-head P n ns a) (all_inserted P x ns p h (All-tail P n ns a))
 
-among_inserted : (x : ℕ) (ns : List ℕ) (p : ℕ) → IsAmong x (insert ns p x)
+pub among_inserted : (x : ℕ) (ns : List ℕ) (p : ℕ) → IsAmong x (insert ns p x)
 among_inserted x ns zero = inl refl
 among_inserted x [] (suc p) = inl refl
 among_inserted x (n ∷ ns) (suc p) = inr (among_inserted x ns p)
 
-still_among : (m x : ℕ) (ns : List ℕ) (p : ℕ) → IsAmong m ns → IsAmong m (insert ns p x)
+pub still_among : (m x : ℕ) (ns : List ℕ) (p : ℕ) → IsAmong m ns → IsAmong m (insert ns p x)
 still_among m x ns zero h = inr h
 still_among m x [] (suc p) h = absurd h
 still_among m x (n ∷ ns) (suc p) (inl e) = inl e

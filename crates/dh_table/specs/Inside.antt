@@ -2,6 +2,7 @@
 pub mod Due
 pub mod Entering
 pub mod Equal
+pub mod Keeping
 pub mod Reading
 pub mod Recording
 pub mod Searching

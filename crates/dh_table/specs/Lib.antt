@@ -4,6 +4,7 @@ pub mod Ends
 pub mod Entries
 pub mod Inside
 pub mod Items
+pub mod Kept
 pub mod Roots
 pub mod Shown
 pub mod States

@@ -14,7 +14,10 @@ mod entrants;
 mod entries;
 mod equality;
 mod flights;
+mod fresh;
 mod items;
+mod keeps;
+mod kept;
 mod lookups;
 mod loops;
 mod news;
@@ -33,6 +36,7 @@ mod sorting;
 mod steps;
 mod tables;
 mod texts;
+mod visited;
 mod visits;
 mod works;
 

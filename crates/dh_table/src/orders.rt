@@ -81,7 +81,8 @@ fn is_same_mode(m: Mode, n: Mode) -> bool
     }
 }
 
-fn is_digest_before(d: &Option<Digest>, e: &Option<Digest>) -> bool
+/// Whether a digest comes before another; none comes before each.
+pub(crate) fn is_digest_before(d: &Option<Digest>, e: &Option<Digest>) -> bool
     ensures { result ≡ before (digest_rank d.now) (digest_rank e.now) }
 {
     match d {

@@ -1,9 +1,9 @@
 //! What is looked for among the things of a table.
 
-use crate::orders::is_key_before;
+use crate::orders::{is_digest_before, is_key_before};
 use crate::sorting::Probe;
 use crate::texts::Entrant;
-use dh_syntax::Key;
+use dh_syntax::{Digest, Key};
 
 /// A key among keys.
 #[derive(Clone, Copy)]
@@ -26,5 +26,30 @@ impl<'a> Probe for KeyProbe<'a> {
 
     fn is_before(&self, n: u32) -> bool {
         is_key_before(self.key, &self.rows[n as usize].key)
+    }
+}
+
+/// A digest among those of keys, the undigested ones before all.
+#[derive(Clone, Copy)]
+pub(crate) struct DigestProbe<'a> {
+    pub rows: &'a [Entrant],
+    pub digest: &'a Option<Digest>,
+}
+
+impl<'a> Probe for DigestProbe<'a> {
+    ghost use Rattle.std.specs.Prelude.{map, ◌∷◌, []};
+    ghost use Rattle.dh_syntax.specs.Imports.Keys.{digest_rank};
+    ghost use Rattle.dh_table.specs.Inside.Keeping.{digest_of_entrant};
+
+    ghost ranks = { λ p. map digest_of_entrant p.rows.now };
+
+    ghost sought = { λ p. digest_rank p.digest.now ∷ [] };
+
+    fn is_behind(&self, n: u32) -> bool {
+        is_digest_before(&self.rows[n as usize].key.digest, self.digest)
+    }
+
+    fn is_before(&self, n: u32) -> bool {
+        is_digest_before(self.digest, &self.rows[n as usize].key.digest)
     }
 }

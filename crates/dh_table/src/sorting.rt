@@ -1,7 +1,7 @@
 //! Numbers in the order of what they stand for, so that one is found in few steps.
 
-ghost use Rattle.std.specs.Prelude.{◌≡◌, ◌<◌, ◌≤◌, ◌+◌, ◌++◌, ◌∷◌, [], List, None, length, take, vec_len, vec_capacity, OnOk};
-ghost use Rattle.dh_table.specs.Inside.Sorting.{Rank, IsOrder, IsPlace, IsRanked};
+ghost use Rattle.std.specs.Prelude.{◌≡◌, ◌<◌, ◌≤◌, ◌+◌, ◌++◌, ◌∷◌, [], ℕ, All, List, None, length, take, vec_len, vec_capacity, OnOk};
+ghost use Rattle.dh_table.specs.Inside.Sorting.{Ascends, Rank, IsOrder, IsPlace, IsRanked};
 
 use std::alloc::{AllocError, Global};
 
@@ -34,9 +34,10 @@ pub(crate) struct Order {
     numbers: Vec<u32>,
 }
 
-// The first place whose number is not of a thing before what is looked for.
-fn place_in<P: Probe>(numbers: &[u32], probe: &P) -> usize
-    requires { IsOrder (P.ranks probe.now) numbers.now }
+/// The first place whose number is not of a thing before what is looked for.
+pub(crate) fn place_in<P: Probe>(numbers: &[u32], probe: &P) -> usize
+    requires inside { All (λ (n : ℕ). n < length (P.ranks probe.now)) numbers.now }
+    requires ascends { Ascends (P.ranks probe.now) numbers.now }
     ensures { IsPlace (P.ranks probe.now) (P.sought probe.now) numbers.now result }
 {
     let mut low = 0;

@@ -8,7 +8,7 @@ loop-low-preserved-then-is_behind g c =
     record {
       ordered = omega arith;
       within = omega arith;
-      below = further _ _ _ c.requires _ inside (sym c.is_behind.ensures ∙ c.if-is_behind.true);
+      below = further _ _ _ c.requires.ascends _ inside (sym c.is_behind.ensures ∙ c.if-is_behind.true);
       above = c.loop-low.invariant.above;
     }
 
@@ -17,5 +17,5 @@ loop-low-preserved g c = record {
   ordered = omega arith;
   within = omega arith;
   below = c.loop-low.invariant.below;
-  above = nearer _ _ _ c.requires _ (sym c.is_behind.ensures ∙ c.if-is_behind.false);
+  above = nearer _ _ _ c.requires.ascends _ (sym c.is_behind.ensures ∙ c.if-is_behind.false);
 }
