@@ -28,7 +28,7 @@ use Rattle.dh_syntax.specs.Text.Printed.{text_of}
 use Rattle.dh_syntax.specs.Text.Spelling.{ParsesTo}
 use Rattle.dh_top.specs.declared.replies.Reply.{Reply}
 use Rattle.dh_top.specs.Replies.{written, Performs}
-use Rattle.dh_top.specs.Runs.{Input, Makes, answers, cannot_read, IsRead, IsTaken, IsLeft, IsQuiet, reading, most_read}
+use Rattle.dh_top.specs.Runs.{Input, Makes, answers, cannot_read, IsRead, IsTaken, IsLeft, IsQuiet, reading}
 
 -- ---- the reply to what a text is parsed to, and to what bytes are decoded to
 

@@ -1,6 +1,5 @@
 -- An expression that has its normal form within the purse is answered with it.
-use Rattle.std.proofs.Common.{◌≡◌, ℕ, ◌+◌, Bool, false, true, true≢false, Result, Ok, Err, refl, sym, ap, ◌∙◌, subst, arith}
-use Rattle.dh_syntax.specs.declared.faults.NormFault.{NormFault}
+use Rattle.std.proofs.Common.{◌≡◌, ℕ, ◌+◌, Bool, false, true, true≢false, refl, ap, subst, arith}
 use Rattle.dh_syntax.specs.declared.faults.NormFault.TheVariants as limit
 use Rattle.dh_syntax.specs.declared.statuses.Status.TheVariants as status
 use Rattle.dh_syntax.specs.Command.Answer.{Response, NormalAnswer, normal, limited}
@@ -9,7 +8,7 @@ use Rattle.dh_syntax.specs.Expressions.Tree.{Term}
 use Rattle.dh_syntax.specs.Limits.{whole_purse}
 use Rattle.dh_syntax.specs.Normalising.Heads.{Answer, Found, Wide, Over, Whole, run}
 use Rattle.dh_syntax.specs.Normalising.Named.{names}
-use Rattle.dh_syntax.specs.Normalising.Normal.{endless, Normalises, IsDeepLicensed, IsLicensed, IsWideLicensed}
+use Rattle.dh_syntax.specs.Normalising.Normal.{endless, Normalises, IsDeepLicensed, IsWideLicensed}
 use Rattle.dh_laws.specs.Runs.{IsWithMore}
 use Rattle.dh_laws.proofs.Normalising.RunLimits.{more_units, one_answer}
 

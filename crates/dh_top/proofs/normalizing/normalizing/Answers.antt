@@ -1,4 +1,3 @@
-use Rattle.std.proofs.Common.{Err}
 use Rattle.dh_top.proofs.Encodings.{normalises_none}
 use Rattle.dh_top.proofs.normalizing.normalizing.Goals as goal
 
