@@ -160,7 +160,7 @@ module _ (es : List Entrant) (n : ℕ) (o : program.Outcome) (l : n < length es)
   numbers_by : (xs ys : List Entrant) → keys_in xs ≡ keys_in ys → (k : Key) → number_of (rows_of xs) k ≡ number_of (rows_of ys) k
   numbers_by xs ys p k = sym (placed xs k) ∙ ap (λ ks. place ks k) p ∙ placed ys k
 
-  numbers : (k : Key) → number_of (rows_of (decided_at es n o)) k ≡ number_of (rows_of es) k
+  pub numbers : (k : Key) → number_of (rows_of (decided_at es n o)) k ≡ number_of (rows_of es) k
   numbers k = numbers_by (decided_at es n o) es keys_same k
 
   count : length (rows_of (decided_at es n o)) ≡ length (rows_of es)

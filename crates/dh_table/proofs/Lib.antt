@@ -32,3 +32,6 @@ pub mod Visiting
 pub mod LeastFresh
 pub mod KeptEntries
 pub mod Keeping
+pub mod Courses
+pub mod Known
+pub mod Staying

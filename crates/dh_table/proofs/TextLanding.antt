@@ -99,7 +99,7 @@ asks_grown [] more k h = new_asks more k h
 asks_grown (e ∷ es) more k h = ap (λ a. if key_eq e.key k then option_map plain e.outcome else a) (asks_grown es more k h)
 
 module _ (es more : List Entrant) where
-  name_grown : (n : ℕ) → n < length es → key_named (es ++ more) n ≡ key_named es n
+  pub name_grown : (n : ℕ) → n < length es → key_named (es ++ more) n ≡ key_named es n
   name_grown n l = ap (λ (e : Entrant). e.key) (get_or_append_left es more nobody n l)
 
   outcome_grown : (n : ℕ) → n < length es → (slice_index_or (es ++ more) n nobody).outcome ≡ (slice_index_or es n nobody).outcome

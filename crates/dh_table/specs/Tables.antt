@@ -20,6 +20,7 @@ use Rattle.dh_table.specs.declared.texts.Text.{Text}
 use Rattle.dh_table.specs.Inside.Entering.{AreDistinct, IsListed, keys_in}
 use Rattle.dh_table.specs.Inside.Due.{IsValued}
 use Rattle.dh_table.specs.Inside.Reading.{IsRead}
+use Rattle.dh_table.specs.Inside.Searching.{HasRoom, Knows}
 use Rattle.dh_table.specs.Shown.{Shown}
 use Rattle.dh_table.specs.States.{IsFrozenLook, IsReplayed, rows_of, state_of, text_of}
 
@@ -60,9 +61,9 @@ pub record IsKnown (root : Scan) (keys : List Entrant) (texts : List Text) : Typ
 
 -- a search of so many keys, and a loop of them, take no memory
 pub record IsRoomy (keys : ℕ) (s : Scratch) : Type 0 where
-  pub marks : keys ≤ length s.marks
+  pub explored : HasRoom keys s.explored
   pub seen : keys ≤ length s.seen
-  pub trail : length s.marks ≤ vec_capacity s.trail
+  pub trail : length s.seen ≤ vec_capacity s.trail
 
 -- the key that a step names by its number is there
 abbrev pub IsStepNamed : ℕ → Step → Type 0
@@ -87,4 +88,5 @@ pub record IsGood {W : _} (t : Inside W) : Type 0 where
   pub known : IsKnown t.root t.keys t.texts.items
   pub fit : AreFit t.keys t.flights.items
   pub scratch : IsRoomy (length t.keys) t.scratch
+  pub explored : Knows (state_of (view_of t)) t.keys t.scratch.explored
   pub room : vec_len t.flights ≤ (view_of t).spare

@@ -5,7 +5,7 @@ ghost use Rattle.dh_syntax.specs.Imports.Machine.{Task, IsOpen, root_walk};
 ghost use Rattle.dh_syntax.specs.Imports.Walk.{Needs};
 ghost use Rattle.dh_syntax.specs.Imports.Replay.{root_end};
 ghost use Rattle.dh_table.specs.Calls.{Claims};
-ghost use Rattle.dh_table.specs.Inside.Searching.{IsFound, IsLoop};
+ghost use Rattle.dh_table.specs.Inside.Searching.{IsFound, IsJob, IsLoop};
 ghost use Rattle.dh_table.specs.States.{key_named, state_of};
 
 use crate::loops::least_of_loop;
@@ -60,7 +60,7 @@ impl<W> Table<W> {
             texts.as_slice(),
             looks.as_slice(),
             flights.as_slice(),
-            &mut scratch.marks,
+            &mut scratch.explored,
             &mut scratch.seen,
         )
     }
@@ -88,7 +88,7 @@ impl<W> Table<W> {
             texts.as_slice(),
             looks.as_slice(),
             first,
-            &mut scratch.marks,
+            &mut scratch.seen,
             &mut scratch.trail,
         )
     }
@@ -113,11 +113,11 @@ impl<W> Table<W> {
         requires { length self.old.flights + 3 ≤ self.old.spare }
         ensures { Claims worker self.old self.new result }
     {
-        match self.need() {
-            None => Claimed::Over,
-            Some(key) => match self.find() {
-                Some(job) => Claimed::Task(self.draw(worker, job)),
-                None => {
+        match self.find_undecided() {
+            Some(job) => Claimed::Task(self.draw(worker, job)),
+            None => match self.need() {
+                None => Claimed::Over,
+                Some(key) => {
                     if self.in_flight() > 0 {
                         Claimed::Idle
                     } else {
@@ -126,6 +126,19 @@ impl<W> Table<W> {
                 }
             },
         }
+    }
+
+    // An open task where the root is undecided. A root that leads to an open task is: only keys that are too many decide it then.
+    fn find_undecided(&mut self) -> Option<Job>
+        ensures undecided { IsSome result → root_end (state_of self.old) ≡ None }
+        ensures found { IfSome result (IsJob (state_of self.old) self.old.keys) }
+        ensures none { IsNone result → root_end (state_of self.old) ≡ None → (t : Task) → ¬ IsOpen (state_of self.old) t }
+        ensures same { self.new ≡ self.old }
+    {
+        if self.keys.len() > MOST_KEYS {
+            return None;
+        }
+        self.find()
     }
 
     // The claim where no task is open and nothing is in flight: a loop is marked first.

@@ -7,6 +7,7 @@ ghost use Rattle.dh_table.specs.Brought.{IsOfDigest, IsScanned};
 ghost use Rattle.dh_table.specs.Calls.{Records, StaysDecided};
 ghost use Rattle.dh_table.specs.Inside.Entering.{keys_in, entered_all, AreMore, AreEdges};
 ghost use Rattle.dh_table.specs.Inside.Recording.{imports_of, read_of};
+ghost use Rattle.dh_table.specs.Inside.Searching.{IsSameKnown};
 ghost use Rattle.dh_table.specs.States.{key_named, rows_of, seen_by, state_of, news_of};
 ghost use Rattle.dh_table.specs.Tables.{IsRoomy};
 
@@ -15,6 +16,7 @@ use crate::entrants::Entrants;
 use crate::entries::Seen;
 use crate::items::Done;
 use crate::news::{News, Noted, Parsed};
+use crate::passing::is_open_value;
 use crate::scratch::Scratch;
 use crate::steps::Step;
 use crate::tables::{Table, put};
@@ -88,6 +90,9 @@ impl<W> Table<W> {
         done.is_last();
         done.has_value();
         let limited = done.is_limit();
+        let passes = is_open_value(&done.item().key.loc, done.outcome());
+        let count = self.keys.len();
+        self.scratch.explored.free(n, passes, count);
         self.keys.decide(n, done.into_outcome());
         put(&mut self.decided, n);
         put_if(&mut self.limited, limited, n);
@@ -159,6 +164,7 @@ fn room_for(
     ensures len { vec_len texts.new ≡ vec_len texts.old }
     ensures room { OnOk result (vec_len texts.new < vec_capacity texts.new) }
     ensures scratch { IsRoomy (length keys.new) scratch.new }
+    ensures known { IsSameKnown scratch.old.explored scratch.new.explored }
 {
     texts.reserve(1)?;
     let alloc = *texts.allocator();

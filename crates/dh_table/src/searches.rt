@@ -1,15 +1,17 @@
-//! The search for an open task: from the keys that the root wants to those to which they lead.
+//! The search for an open task: from the keys that the root wants to those to which they lead. What it finds of keys that wait
+//! is kept for the next one.
 
-ghost use Rattle.std.specs.Prelude.{◌≡◌, ◌<◌, ◌≤◌, ◌^◌, All, true, None, MatchOption, length, slice_set};
+ghost use Rattle.std.specs.Prelude.{◌≡◌, ◌<◌, ◌≤◌, ◌^◌, ℕ, List, All, true, None, MatchOption, length, slice_set};
 ghost use Rattle.dh_syntax.specs.Expressions.Bridge.{term};
 ghost use Rattle.dh_syntax.specs.Imports.Machine.{State};
 ghost use Rattle.dh_demand.specs.Scans.{Fits};
 ghost use Rattle.dh_table.specs.Inside.Entering.{IsListed};
 ghost use Rattle.dh_table.specs.Inside.Reading.{IsRead};
-ghost use Rattle.dh_table.specs.Inside.Searching.{Stands, is_set, IsExplored, IsFound, IsJob, IsPassed, unseen};
+ghost use Rattle.dh_table.specs.Inside.Searching.{Stands, is_set, HasRoom, IsExplored, IsExploredBy, IsFound, IsJob, IsPassed, Knows, unseen};
 ghost use Rattle.dh_table.specs.States.{rows_of};
 
 use crate::entrants::Entrants;
+use crate::explored::Explored;
 use crate::sameness::flies;
 use crate::steps::{Flight, Job};
 use crate::texts::{Look, Text};
@@ -27,15 +29,14 @@ enum Pass {
     Still,
 }
 
-/// An open task; `None` exactly where none is open. It marks the keys that the root wants and those to which they lead, and
-/// takes no memory.
+/// An open task; `None` exactly where none is open. It looks at the wanted keys that are not known to wait, and takes no memory.
 pub(crate) fn find_open(
     root: &Scan,
     keys: &Entrants,
     texts: &[Text],
     looks: &[Look],
     flights: &[Flight],
-    marks: &mut Marks,
+    explored: &mut Explored,
     seen: &mut Marks,
 ) -> Option<Job>
     requires root { Fits None (rows_of keys.now) (term root.now.expr) root.now.edges }
@@ -43,20 +44,52 @@ pub(crate) fn find_open(
     requires read { All (IsRead (rows_of keys.now)) texts.now }
     requires named { All (λ (f : Flight). f.job.key < length keys.now) flights.now }
     requires few { length keys.now ≤ 2 ^ 32 }
-    requires marks { length keys.now ≤ length marks.old }
+    requires room { HasRoom (length keys.now) explored.old }
     requires seen { length keys.now ≤ length seen.old }
-    ensures found { (s : State) → s.root ≡ term root.now.expr → Stands keys.now texts.now looks.now flights.now s → IsFound s keys.now result }
-    ensures marks { length marks.new ≡ length marks.old }
+    ensures found { (s : State) → s.root ≡ term root.now.expr → Stands keys.now texts.now looks.now flights.now s → Knows s keys.now explored.old → IsFound s keys.now result }
+    ensures knows { (s : State) → s.root ≡ term root.now.expr → Stands keys.now texts.now looks.now flights.now s → Knows s keys.now explored.old → Knows s keys.now explored.new }
+    ensures room { HasRoom (length keys.now) explored.new }
     ensures seen { length seen.new ≡ length seen.old }
 {
-    marks.clear();
-    seen.clear();
-    wanted(root, None, keys, marks);
+    begin(root, keys, explored);
+    pass_over(&explored.waiting, seen, keys.len());
     'passes: loop {
-        match go_over(keys, texts, looks, flights, marks, seen) {
+        match go_over(keys, texts, looks, flights, explored, seen) {
             Pass::Open(job) => return Some(job),
             Pass::Still => return None,
             Pass::Further => {}
+        }
+    }
+}
+
+// Where nothing is known: marks the keys that the root wants.
+fn begin(root: &Scan, keys: &Entrants, explored: &mut Explored)
+    requires root { Fits None (rows_of keys.now) (term root.now.expr) root.now.edges }
+    requires room { HasRoom (length keys.now) explored.old }
+    ensures explored { (texts : List Text) (looks : List Look) (flights : List Flight) (s : State) → s.root ≡ term root.now.expr → Stands keys.now texts looks flights s →
+        Knows s keys.now explored.old → IsExploredBy s keys.now explored.new }
+    ensures room { HasRoom (length keys.now) explored.new }
+{
+    if explored.known {
+        return;
+    }
+    explored.clear();
+    wanted(root, None, keys, &mut explored.marks);
+}
+
+// Of the first keys those that are known to wait, and no others, need not be seen.
+fn pass_over(waiting: &Marks, seen: &mut Marks, keys: usize)
+    requires few { keys ≤ 2 ^ 32 }
+    requires waiting { keys ≤ length waiting.now }
+    requires seen { keys ≤ length seen.old }
+    ensures only { (n : ℕ) → is_set seen.new n ≡ true → is_set waiting.now n ≡ true }
+    ensures len { length seen.new ≡ length seen.old }
+{
+    seen.clear();
+    for i in 0..keys {
+        let n = i as u32;
+        if waiting.is_set(n) {
+            seen.set(n, true);
         }
     }
 }
@@ -67,26 +100,27 @@ fn go_over(
     texts: &[Text],
     looks: &[Look],
     flights: &[Flight],
-    marks: &mut Marks,
+    explored: &mut Explored,
     seen: &mut Marks,
 ) -> Pass
     requires listed { All (IsListed (rows_of keys.now)) keys.now }
     requires read { All (IsRead (rows_of keys.now)) texts.now }
     requires named { All (λ (f : Flight). f.job.key < length keys.now) flights.now }
     requires few { length keys.now ≤ 2 ^ 32 }
-    requires marks { length keys.now ≤ length marks.old }
+    requires room { HasRoom (length keys.now) explored.old }
     requires seen { length keys.now ≤ length seen.old }
-    ensures passed { (s : State) → Stands keys.now texts.now looks.now flights.now s → IsExplored s keys.now flights.now marks.old seen.old →
-        IsPassed s keys.now flights.now marks.new seen.new result }
+    ensures passed { (s : State) → Stands keys.now texts.now looks.now flights.now s → IsExplored s keys.now flights.now explored.old.marks seen.old →
+        IsPassed s keys.now flights.now explored.new.marks seen.new result }
+    ensures explored { (s : State) → Stands keys.now texts.now looks.now flights.now s → IsExploredBy s keys.now explored.old → IsExploredBy s keys.now explored.new }
     ensures falls { result ≡ Pass.Further → unseen seen.new < unseen seen.old }
-    ensures marks { length marks.new ≡ length marks.old }
+    ensures room { HasRoom (length keys.now) explored.new }
     ensures seen { length seen.new ≡ length seen.old }
 {
     let mut further = false;
     for i in 0..keys.len() {
         let n = i as u32;
-        if marks.is_set(n) && !seen.is_set(n) {
-            if let Some(job) = see(keys, texts, looks, flights, n, marks, seen) {
+        if explored.marks.is_set(n) && !seen.is_set(n) {
+            if let Some(job) = see(keys, texts, looks, flights, n, explored, seen) {
                 return Pass::Open(job);
             }
             further = true;
@@ -102,24 +136,29 @@ fn see(
     looks: &[Look],
     flights: &[Flight],
     n: u32,
-    marks: &mut Marks,
+    explored: &mut Explored,
     seen: &mut Marks,
 ) -> Option<Job>
     requires inside { n < length keys.now }
     requires listed { All (IsListed (rows_of keys.now)) keys.now }
     requires read { All (IsRead (rows_of keys.now)) texts.now }
     requires named { All (λ (f : Flight). f.job.key < length keys.now) flights.now }
-    requires marks { length keys.now ≤ length marks.old }
+    requires room { HasRoom (length keys.now) explored.old }
     requires seen { length keys.now ≤ length seen.old }
-    ensures seen { (s : State) → Stands keys.now texts.now looks.now flights.now s → is_set marks.old n ≡ true → IsExplored s keys.now flights.now marks.old seen.old →
-        MatchOption result (IsExplored s keys.now flights.now marks.new seen.new) (λ j. IsJob s keys.now j) }
+    ensures seen { (s : State) → Stands keys.now texts.now looks.now flights.now s → is_set explored.old.marks n ≡ true → IsExplored s keys.now flights.now explored.old.marks seen.old →
+        MatchOption result (IsExplored s keys.now flights.now explored.new.marks seen.new) (λ j. IsJob s keys.now j) }
+    ensures explored { (s : State) → Stands keys.now texts.now looks.now flights.now s → is_set explored.old.marks n ≡ true → IsExploredBy s keys.now explored.old →
+        IsExploredBy s keys.now explored.new }
     ensures set { seen.new ≡ slice_set seen.old n true }
-    ensures marks { length marks.new ≡ length marks.old }
+    ensures room { HasRoom (length keys.now) explored.new }
 {
-    let reach = visit(keys, texts, looks, n, marks);
+    let reach = visit(keys, texts, looks, n, &mut explored.marks);
     seen.set(n, true);
     match reach {
-        Reach::Wait(_) => None,
+        Reach::Wait(by) => {
+            explored.block(n, by);
+            None
+        }
         Reach::Due(kind) => {
             let job = Job { kind, key: n };
             if flies(keys, flights, job) {

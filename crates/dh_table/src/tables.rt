@@ -40,7 +40,7 @@ pub struct Table<W> {
     pub(crate) drawn: Vec<Job>,
     pub(crate) history: Vec<Step>,
     pub(crate) refused: Vec<News>,
-    // room for claims
+    // what claims have found so far, and room for them
     pub(crate) scratch: Scratch,
     pub(crate) world: PhantomData<W>,
 }
@@ -156,6 +156,7 @@ impl<W> Table<W> {
         ensures flights { self.new.flights ≡ self.old.flights }
         ensures adds { Adds self.old self.new (Step.Cycled n ∷ []) }
     {
+        self.scratch.explored.known = false;
         self.keys.mark(n);
         put(&mut self.decided, n);
         put(&mut self.history, Step::Cycled { key: n });

@@ -1,7 +1,13 @@
 -- The search for an open task.
-use Rattle.std.specs.Prelude.{◌≡◌, ◌⊎◌, ◌<◌, ℕ, Bool, true, false, if◌then◌else◌, sum_by, List, [], length, map, reverse, slice_index_or, Option, Some, None}
+use Rattle.std.specs.Prelude.{◌≡◌, ◌⊎◌, ◌<◌, ◌≤◌, ℕ, Bool, true, false, if◌then◌else◌, sum_by, List, [], length, map, reverse, slice_index_or, slice_set, Option, Some, None, is_none, vec_len}
 use Rattle.dh_syntax.specs.declared.locations.Key.{Key}
+use Rattle.dh_syntax.specs.declared.locations.Loc.{Loc}
+use Rattle.dh_syntax.specs.declared.outcomes.Origin.{Origin}
+use Rattle.dh_syntax.specs.declared.outcomes.Origin.TheVariants as origins
+use Rattle.dh_syntax.specs.declared.outcomes.Outcome as program
+use Rattle.dh_syntax.specs.declared.outcomes.Outcome.TheVariants as outcomes
 use Rattle.dh_syntax.specs.Expressions.Numbers.{eq}
+use Rattle.dh_syntax.specs.Imports.Locations.{origin}
 use Rattle.dh_syntax.specs.Imports.Machine as machine
 use Rattle.dh_syntax.specs.Imports.Machine.{IsAmong, Task, State, IsOpen, Wanted, Blocks, Cycled, May, effect, leads_to, outcome_of, root_walk, stage_of}
 use Rattle.dh_syntax.specs.Imports.Records.{lookup}
@@ -9,6 +15,7 @@ use Rattle.dh_syntax.specs.Imports.Resolver.{TextOf, LookOf, Lacks, Has, Meets, 
 use Rattle.dh_syntax.specs.Imports.Walk.{Turns, wants}
 use Rattle.dh_demand.specs.Results.{ask_of}
 use Rattle.dh_demand.specs.Results.{number_of}
+use Rattle.dh_table.specs.declared.explored.Explored.{Explored}
 use Rattle.dh_table.specs.declared.searches.Pass.{Pass}
 use Rattle.dh_table.specs.declared.searches.Pass.TheVariants as passes
 use Rattle.dh_table.specs.declared.steps.Flight.{Flight}
@@ -75,6 +82,62 @@ pub record IsJob (s : State) (keys : List Entrant) (j : Job) : Type 0 where
 abbrev pub IsFound : State → List Entrant → Option Job → Type 0
 IsFound s keys (Some j) = IsJob s keys j
 IsFound s keys None = (t : Task) → ¬ IsOpen s t
+
+-- ---- what is known from earlier searches
+
+-- the key of the number n waits for that of the number m, and the keys to which it leads are marked
+pub record IsWaiting (s : State) (keys : List Entrant) (marks : List Bool) (n m : ℕ) : Type 0 where
+  pub inside : n < length keys
+  pub blocker : m < length keys
+  pub stage_is : stage_of s (key_named keys n) ≡ Waits (key_named keys m)
+  pub leads : (j : Key) → IsAmong j (leads_to s (key_named keys n)) → IsMarked keys marks j
+
+abbrev pub number_at : List ℕ → ℕ → ℕ
+number_at ns n = slice_index_or ns n 0
+
+-- the marked keys are wanted, those that the root wants among them, and of these some are known to wait
+pub record AreKnown (s : State) (keys : List Entrant) (marks waiting : List Bool) (blocking : List ℕ) : Type 0 where
+  pub by_root : (k : Key) → IsAmong k (wants None (outcome_of s) s.root) → IsMarked keys marks k
+  pub sound : (n : ℕ) → is_set marks n ≡ true → (n < length keys) × Wanted s (key_named keys n)
+  pub waits : (n : ℕ) → is_set waiting n ≡ true → IsWaiting s keys marks n (number_at blocking n)
+
+abbrev pub IsExploredBy : State → List Entrant → Explored → Type 0
+IsExploredBy s keys e = AreKnown s keys e.marks e.waiting e.blocking.items
+
+-- so it is, unless nothing is known
+abbrev pub Knows : State → List Entrant → Explored → Type 0
+Knows s keys e = e.known ≡ true → IsExploredBy s keys e
+
+-- there is room for what is known of so many keys
+pub record HasRoom (keys : ℕ) (e : Explored) : Type 0 where
+  pub marks : keys ≤ length e.marks
+  pub waiting : keys ≤ length e.waiting
+  pub blocking : keys ≤ vec_len e.blocking
+
+-- all but the room is as it was
+pub record IsSameKnown (old new : Explored) : Type 0 where
+  pub known_is : new.known ≡ old.known
+  pub marks_are : (n : ℕ) → is_set new.marks n ≡ is_set old.marks n
+  pub waiting_are : (n : ℕ) → is_set new.waiting n ≡ is_set old.waiting n
+  pub blocking_are : (n : ℕ) → number_at new.blocking.items n ≡ number_at old.blocking.items n
+
+-- the key of the number n has lost its mark, and no key is known to wait for it
+pub record IsUnblocked (keys n : ℕ) (old new : Explored) : Type 0 where
+  pub marks_are : new.marks ≡ slice_set old.marks n false
+  pub waiting : (i : ℕ) → is_set new.waiting i ≡ true → is_set old.waiting i ≡ true
+  pub unblocked : (i : ℕ) → i < keys → is_set new.waiting i ≡ true → ¬ (number_at old.blocking.items i ≡ n)
+  pub blocking_is : new.blocking.items ≡ old.blocking.items
+
+-- each text may read a value of this origin at this location
+abbrev pub is_open_origin : Loc → Origin → Bool
+is_open_origin l (origins.Fetched allow) = is_none (origin l)
+is_open_origin l origins.Cached = true
+is_open_origin l origins.Made = true
+
+-- the outcome is a value that each text may read
+abbrev pub is_open_value : Loc → program.Outcome → Bool
+is_open_value l (outcomes.Good v o) = is_open_origin l o
+is_open_value l (outcomes.Bad b) = false
 
 -- what a pass came to
 abbrev pub IsPassed : State → List Entrant → List Flight → List Bool → List Bool → Pass → Type 0

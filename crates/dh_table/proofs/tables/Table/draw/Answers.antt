@@ -1,4 +1,4 @@
-use Rattle.std.proofs.Common.{rules, ◌≡◌, ◌+◌, ◌<◌, suc, length, sym, arith, append-nil, subst as along}
+use Rattle.std.proofs.Common.{rules, ◌≡◌, ◌+◌, ◌<◌, suc, length, refl, sym, arith, append-nil, subst as along}
 use Rattle.std.specs.Prelude.{map}
 use Rattle.std.proofs.lemmas.Grind.{common_steps}
 use Rattle.dh_syntax.specs.Imports.Machine as machine
@@ -9,6 +9,7 @@ use Rattle.dh_table.specs.States.{IsFrozenLook, state_of, task_of, news_of}
 use Rattle.dh_table.specs.Tables.{IsStepNamed, view_of}
 use Rattle.dh_table.proofs.Fitting.{fit_drawn}
 use Rattle.dh_table.proofs.Histories.{further}
+use Rattle.dh_table.proofs.Known.{known_flights}
 use Rattle.dh_table.proofs.Stepping.{state-with, drawn-flights, drawn-jobs, drawn-history, all-push}
 use Rattle.dh_table.proofs.tables.Table.draw.Goals as goal
 
@@ -38,5 +39,6 @@ invariant_of-self g c =
       known = c.self.invariant.known;
       fit = fit_drawn keys t.flights.items _ f c.put-2.ensures.items (along (λ v. IsFrozenLook v.keys c.args.job) (sym c.self.view_is) c.requires.frozen) c.self.invariant.fit;
       scratch = c.self.invariant.scratch;
+      explored = λ h. known_flights (state_of old) (state_of next) refl refl refl keys _ _ _ (c.self.invariant.explored h);
       room = grind (arith, common_steps);
     }

@@ -1,4 +1,4 @@
-use Rattle.std.proofs.Common.{rules, ◌≡◌, ◌<◌, length, ap, sym, ◌∙◌, append-nil, vec_len, vec_capacity, subst as along}
+use Rattle.std.proofs.Common.{rules, ◌≡◌, ◌<◌, length, refl, ap, sym, ◌∙◌, append-nil, vec_len, vec_capacity, subst as along}
 use Rattle.std.specs.Prelude.{map, filter, All}
 use Rattle.std.proofs.lemmas.Fn.{filter_same}
 use Rattle.dh_syntax.specs.Imports.Machine as machine
@@ -9,6 +9,7 @@ use Rattle.dh_table.specs.States.{state_of, news_of, step_by}
 use Rattle.dh_table.specs.Tables.{IsStepNamed, view_of}
 use Rattle.dh_table.proofs.Fitting.{fit_filtered}
 use Rattle.dh_table.proofs.Histories.{further}
+use Rattle.dh_table.proofs.Known.{known_flights}
 use Rattle.dh_table.proofs.Logs.{mapped, others, fewer_flights, room_lands}
 use Rattle.dh_table.proofs.Stepping.{flights-with, filtered-flights, all-filter, all-push}
 use Rattle.dh_table.proofs.tables.Table.land.Goals as goal
@@ -39,6 +40,7 @@ invariant_of-self g c =
       known = c.self.invariant.known;
       fit = fit_filtered t.keys (others c.args.serial) t.flights.items _ left c.self.invariant.fit;
       scratch = c.self.invariant.scratch;
+      explored = λ h. known_flights (state_of (view_of t)) (state_of next) refl refl refl keys _ _ _ (c.self.invariant.explored h);
       room =
           room_lands (vec_len t.flights) _ (vec_capacity t.flights) _ (vec_len t.drawn) _ (vec_len t.history) _ (vec_capacity t.history) _ (vec_len t.refused) _ _ fewer c.self.invariant.room c.retain.ensures.capacity c.put.ensures.len c.put.ensures.room;
     }

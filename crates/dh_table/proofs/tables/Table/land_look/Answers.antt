@@ -1,4 +1,4 @@
-use Rattle.std.proofs.Common.{rules, ◌≡◌, ◌<◌, ◌++◌, ◌∷◌, [], length, ap, sym, ◌∙◌, append-nil, arith, vec_len, vec_capacity, subst as along}
+use Rattle.std.proofs.Common.{rules, ◌≡◌, ◌<◌, ◌++◌, ◌∷◌, [], length, refl, ap, sym, ◌∙◌, append-nil, arith, vec_len, vec_capacity, subst as along}
 use Rattle.std.specs.Prelude.{map, filter, reverse, All}
 use Rattle.std.proofs.lemmas.Fn.{filter_same}
 use Rattle.std.proofs.lemmas.Grind.{common_steps}
@@ -11,6 +11,7 @@ use Rattle.dh_table.specs.States.{look_of, seen_by, state_of, news_of, step_by}
 use Rattle.dh_table.specs.Tables.{IsStepNamed, view_of}
 use Rattle.dh_table.proofs.Fitting.{fit_filtered}
 use Rattle.dh_table.proofs.Histories.{further}
+use Rattle.dh_table.proofs.Known.{known_still, step_grows}
 use Rattle.dh_table.proofs.Landing.{looked_state}
 use Rattle.dh_table.proofs.Logs.{latest, mapped, others, fewer_flights, room_lands}
 use Rattle.dh_table.proofs.Stepping.{filtered-flights, all-filter, all-push}
@@ -31,10 +32,10 @@ invariant_of-self-2 g c =
     let fewer : vec_len c.retain.new.self < vec_len t.flights = search rules in
     let next = view_of {W = g.row.W.Denot} (record t { looks = c.put.new.v; flights = c.retain.new.self; history = c.put-2.new.v }) in
     let recorded = ap (λ ls. reverse (map look_of ls)) c.put.ensures.items ∙ latest look_of c.reserve.new.self.items (record { digest = digest; look = c.args.look }) ∙ ap (λ ls. (digest, look) ∷ reverse (map look_of ls)) c.reserve.ensures.items in
+    let state_is : state_of next ≡ machine.effect (machine.Looked serial digest look) (state_of v) = looked_state (state_of v) _ _ serial digest look (filtered-flights keys serial t.flights.items _ left) recorded in
     record {
       replays =
-          further _ _ _ _ _ inv.replays (machine.Looked serial digest look) (flies, c.tell_good.ensures) (state_of next) _ _
-          (looked_state (state_of v) _ _ serial digest look (filtered-flights keys serial t.flights.items _ left) recorded)
+          further _ _ _ _ _ inv.replays (machine.Looked serial digest look) (flies, c.tell_good.ensures) (state_of next) _ _ state_is
           (sym (append-nil (map news_of t.refused.items)))
           (mapped (step_by keys) t.history.items _ (steps.Looked serial) c.put-2.ensures.items);
       flights_named = along (λ fs. All (λ (f : Flight). f.job.key < length t.keys) fs) (sym left) (all-filter (λ (f : Flight). f.job.key < length t.keys) (others serial) t.flights.items inv.flights_named);
@@ -47,6 +48,7 @@ invariant_of-self-2 g c =
       known = inv.known;
       fit = fit_filtered keys (others serial) t.flights.items _ left inv.fit;
       scratch = inv.scratch;
+      explored = λ h. known_still (state_of v) (state_of next) (step_grows _ _ _ _ (state_of v) (state_of next) (machine.Looked serial digest look) inv.replays (flies, c.tell_good.ensures) state_is) refl refl keys _ _ _ (inv.explored h);
       room =
           room_lands (vec_len t.flights) _ (vec_capacity t.flights) _ (vec_len t.drawn) _ (vec_len t.history) _ (vec_capacity t.history) _ (vec_len t.refused) _ _ fewer inv.room c.retain.ensures.capacity c.put-2.ensures.len c.put-2.ensures.room;
     }

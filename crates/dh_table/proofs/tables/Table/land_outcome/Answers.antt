@@ -1,10 +1,10 @@
 use Rattle.std.proofs.Common.{rules, ◌≡◌, ◌<◌, ◌++◌, ◌∷◌, [], length, refl, ap, sym, ◌∙◌, append-nil, vec_len, vec_capacity, subst as along}
-use Rattle.std.specs.Prelude.{ℕ, ◌≤◌, ◌+◌, if◌then◌else◌, map, filter, All, None}
+use Rattle.std.specs.Prelude.{ℕ, ◌≤◌, ◌+◌, if◌then◌else◌, map, filter, true, All, None}
 use Rattle.std.proofs.lemmas.Fn.{filter_same}
 use Rattle.dh_syntax.specs.declared.locations.Key.{Key}
 use Rattle.dh_syntax.specs.Expressions.Bridge.{term}
 use Rattle.dh_syntax.specs.Imports.Machine as machine
-use Rattle.dh_syntax.specs.Imports.Machine.{InFlight, IsDone, IsInTime, outcome_of, stage_of}
+use Rattle.dh_syntax.specs.Imports.Machine.{InFlight, IsDone, IsInTime, May, outcome_of}
 use Rattle.dh_syntax.specs.Imports.Outcomes.{plain}
 use Rattle.dh_syntax.specs.Imports.Records.{limit_at}
 use Rattle.dh_demand.specs.Results.{ask_of}
@@ -13,6 +13,7 @@ use Rattle.dh_table.specs.declared.steps.Flight.{Flight}
 use Rattle.dh_table.specs.declared.steps.Job.{Job}
 use Rattle.dh_table.specs.declared.steps.Step.TheVariants as steps
 use Rattle.dh_table.specs.Inside.Entering.{decided_at}
+use Rattle.dh_table.specs.Inside.Searching.{HasRoom, IsExploredBy, IsUnblocked, is_open_value}
 use Rattle.dh_table.specs.Items.{stage_of_item}
 use Rattle.dh_table.specs.Shown.{Shown}
 use Rattle.dh_table.specs.States.{IsReplayed, limit_by, rows_of, key_named, state_of, news_of, step_by}
@@ -23,6 +24,7 @@ use Rattle.dh_table.proofs.Fitting.{fit_decided, fit_filtered}
 use Rattle.dh_table.proofs.Histories.{further}
 use Rattle.dh_table.proofs.Landing.{stays_decided}
 use Rattle.dh_table.proofs.Logs.{others, fewer_flights}
+use Rattle.dh_table.proofs.Staying.{known_decided}
 use Rattle.dh_table.proofs.Stepping.{filtered-flights, all-filter, all-push}
 use Rattle.dh_table.proofs.tables.Table.land_outcome.Goals as goal
 
@@ -49,7 +51,7 @@ invariant_of-self g c =
     let left : c.retain.new.self.items ≡ filter (others serial) t.flights.items = filter_same _ (others serial) _ (λ x b f r. search rules) _ _ c.retain.ensures.filtered in
     let shorter = fewer_flights keys t.flights.items _ serial (machine.Finish i.key) left in_time.0 in
     let fewer : vec_len c.retain.new.self < vec_len t.flights = search rules in
-    let next = view_of {W = g.row.W.Denot} (record t { keys = c.decide.new.self; decided = c.put.new.v; limited = c.put_if.new.v; flights = c.retain.new.self; history = c.put-2.new.v }) in
+    let next = view_of {W = g.row.W.Denot} (record t { keys = c.decide.new.self; decided = c.put.new.v; limited = c.put_if.new.v; flights = c.retain.new.self; history = c.put-2.new.v; scratch = record t.scratch { explored = c.free.new.self } }) in
     let e = machine.Finished serial i.key (stage_of_item i) (limit_by done.limited o) (plain o) in
     let state_is : state_of next ≡ machine.effect e s =
     finished_state v n o inside d undecided unlimited next done.limited _ refl keys_is refl refl c.put.ensures.items limits (filtered-flights keys serial t.flights.items _ left) refl
@@ -57,9 +59,16 @@ invariant_of-self g c =
     let sizes = decided_length keys n o c.decide.new.self keys_is in
     let needed : length t.flights.items + 1 ≤ v.spare = along (λ (x : Shown). length x.flights + 1 ≤ x.spare) (sym c.self.view_is) c.requires.room in
     let room : vec_len t.flights + 1 ≤ v.spare = search rules in
+    let explored = c.free.new.self in
+    let sized : c.len-count.result ≡ length keys = c.len-count.ensures in
+    let roomy : HasRoom (length keys) explored = along (λ m. HasRoom m explored) sized c.free.ensures.room in
+    let unblocked : IsUnblocked (length keys) n t.scratch.explored explored = along (λ m. IsUnblocked m n t.scratch.explored explored) sized c.free.ensures.unblocked in
+    let may : May e s = (in_time, is_done s i o done.limited (ap (λ k. limit_at s.recorded k) (sym named) ∙ unlimited) c.is_last.ensures) in
+    let of_key : Key → machine.Event = λ k. machine.Finished serial k (stage_of_item i) (limit_by done.limited o) (plain o) in
+    let opens : explored.known ≡ true → is_open_value (key_named keys n).loc o ≡ true = λ h. search rules in
     record {
       replays =
-          further _ _ _ _ _ inv.replays e (in_time, is_done s i o done.limited (ap (λ k. limit_at s.recorded k) (sym named) ∙ unlimited) c.is_last.ensures) (state_of next) _ _ state_is (sym (append-nil (map news_of t.refused.items)))
+          further _ _ _ _ _ inv.replays e may (state_of next) _ _ state_is (sym (append-nil (map news_of t.refused.items)))
           (ap (λ es. map (step_by es) c.put-2.new.v.items) keys_is ∙ finished_history v n o inside d undecided unlimited t.history.items c.put-2.new.v.items serial c.put-2.ensures.items);
       flights_named = along (λ m. All (λ (f : Flight). f.job.key < m) c.retain.new.self.items) (sym sizes) (along (λ fs. All (λ (f : Flight). f.job.key < length keys) fs) (sym left) (all-filter (λ (f : Flight). f.job.key < length keys) (others serial) t.flights.items inv.flights_named));
       drawn_named = along (λ m. All (λ (j : Job). j.key < m) t.drawn.items) (sym sizes) inv.drawn_named;
@@ -70,7 +79,12 @@ invariant_of-self g c =
       asks = ap outcome_of state_is ∙ ap (λ (k : Key). outcome_of (machine.effect (machine.Finished serial k (stage_of_item i) (limit_by done.limited o) (plain o)) s)) (sym named) ∙ asks_after s keys n o inside d inv.asks ∙ ap (λ es. ask_of (rows_of es)) (sym keys_is);
       known = along (λ es. IsKnown t.root es t.texts.items) (sym keys_is) (decided_known keys n o inside d t.root t.texts.items inv.known);
       fit = along (λ es. AreFit es c.retain.new.self.items) (sym keys_is) (fit_decided keys n o c.retain.new.self.items inside d c.has_value.ensures (fit_filtered keys (others serial) t.flights.items c.retain.new.self.items left inv.fit));
-      scratch = along (λ m. IsRoomy m t.scratch) (sym sizes) inv.scratch;
+      scratch = along (λ m. IsRoomy m (record t.scratch { explored = explored })) (sym sizes) (record { explored = roomy; seen = inv.scratch.seen; trail = inv.scratch.trail });
+      explored =
+          λ h.
+          along (λ es. IsExploredBy (state_of next) es explored) (sym keys_is)
+          (known_decided _ _ _ _ s (state_of next) serial (stage_of_item i) (limit_by done.limited o) keys n o inside d inv.replays
+          (along (λ (k : Key). May (of_key k) s) (sym named) may) (state_is ∙ ap (λ (k : Key). machine.effect (of_key k) s) (sym named)) undecided (opens h) t.scratch.explored explored unblocked (inv.explored (c.free.ensures.known h)));
       room = room_left (vec_len t.flights) (vec_len c.retain.new.self) v.spare next.spare fewer room (room_falls (vec_len t.flights) (vec_len c.retain.new.self) (vec_capacity t.flights) (vec_capacity c.retain.new.self) (vec_len t.drawn) (vec_capacity t.drawn) (vec_len t.history) (vec_len c.put-2.new.v) (vec_capacity t.history) (vec_capacity c.put-2.new.v)
           (vec_len t.refused) (vec_capacity t.refused) (vec_len t.decided) (vec_len c.put.new.v) (vec_capacity t.decided) (vec_capacity c.put.new.v) (vec_len t.limited) (vec_len c.put_if.new.v) (vec_capacity t.limited) (vec_capacity c.put_if.new.v)
           fewer c.retain.ensures.capacity c.put-2.ensures.len c.put-2.ensures.room c.put.ensures.len c.put.ensures.room c.put_if.ensures.len c.put_if.ensures.room);
@@ -99,7 +113,7 @@ returns-clause-lands g c =
     let left : c.retain.new.self.items ≡ filter (others serial) t.flights.items = filter_same _ (others serial) _ (λ x b f r. search rules) _ _ c.retain.ensures.filtered in
     let shorter = fewer_flights keys t.flights.items _ serial (machine.Finish i.key) left in_time.0 in
     let fewer : vec_len c.retain.new.self < vec_len t.flights = search rules in
-    let next = view_of {W = g.row.W.Denot} (record t { keys = c.decide.new.self; decided = c.put.new.v; limited = c.put_if.new.v; flights = c.retain.new.self; history = c.put-2.new.v }) in
+    let next = view_of {W = g.row.W.Denot} (record t { keys = c.decide.new.self; decided = c.put.new.v; limited = c.put_if.new.v; flights = c.retain.new.self; history = c.put-2.new.v; scratch = record t.scratch { explored = c.free.new.self } }) in
     let e = machine.Finished serial i.key (stage_of_item i) (limit_by done.limited o) (plain o) in
     let state_is : state_of next ≡ machine.effect e s =
     finished_state v n o inside d undecided unlimited next done.limited _ refl keys_is refl refl c.put.ensures.items limits (filtered-flights keys serial t.flights.items _ left) refl

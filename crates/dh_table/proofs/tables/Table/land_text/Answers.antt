@@ -14,6 +14,7 @@ use Rattle.dh_table.specs.declared.tables.Table.TheInside.{Inside}
 use Rattle.dh_table.specs.declared.texts.Text.{Text}
 use Rattle.dh_table.specs.Inside.Entering.{AreMore, AreEdges, entered_all, keys_in}
 use Rattle.dh_table.specs.Inside.Recording.{imports_of, read_of}
+use Rattle.dh_table.specs.Inside.Searching.{Knows}
 use Rattle.dh_table.specs.Shown.{Shown}
 use Rattle.dh_table.specs.States.{IsReplayed, noted_by, parsed_by, rows_of, state_of, news_of}
 use Rattle.dh_table.specs.Tables.{AreFit, IsGood, IsKnown, IsOwned, IsStepNamed, view_of}
@@ -21,7 +22,9 @@ use Rattle.dh_table.specs.Calls.{Records}
 use Rattle.dh_table.proofs.Landing.{landed_decided}
 use Rattle.dh_table.proofs.Fitting.{fit_filtered, fit_more}
 use Rattle.dh_table.proofs.Histories.{further}
+use Rattle.dh_table.proofs.Known.{step_grows}
 use Rattle.dh_table.proofs.Logs.{others, fewer_flights, room_lands}
+use Rattle.dh_table.proofs.Staying.{known_alike, known_more as known_grown}
 use Rattle.dh_table.proofs.Stepping.{filtered-flights, all-filter, all-push}
 use Rattle.dh_table.proofs.TextLanding.{noted_same, is_parsed, is_read, keys_are_noted, steps_named, flights_named, jobs_named, numbers_named, owned_more, asks_more, known_more, fetched_state, fetched_history}
 use Rattle.dh_table.proofs.tables.Table.land_text.Goals as goal
@@ -75,6 +78,9 @@ invariant_of-self g c = elim c.match-room_for.branch [
             (is_read (rows_of es') l got scan edges c.requires.scanned ends) w.in-Ok.ensures.few w.put.new.v.items texts;
         fit = fit_more t.keys (entered_all (keys_in t.keys) (imports_of scan)) es' m w.retain.new.self.items left_named (fit_filtered t.keys (others serial) t.flights.items _ left inv.fit);
         scratch = w.in-Ok.ensures.scratch;
+        explored =
+            known_grown t.keys es' (entered_all (keys_in t.keys) (imports_of scan)) m (state_of v) (state_of next) (step_grows _ _ _ _ (state_of v) (state_of next) (machine.Fetched serial l noted) inv.replays (flies, is_parsed l got scan c.requires.scanned) state_is) refl
+            (ap machine.outcome_of state_is) t.scratch.explored c.room_for.new.scratch.explored c.room_for.ensures.known inv.explored;
         room =
             room_lands (vec_len t.flights) _ (vec_capacity t.flights) _ (vec_len t.drawn) _ (vec_len t.history) _ (vec_capacity t.history) _ (vec_len t.refused) _ _ fewer inv.room w.retain.ensures.capacity w.put-in-Ok.ensures.len w.put-in-Ok.ensures.room;
       })
@@ -98,6 +104,7 @@ invariant_of-self g c = elim c.match-room_for.branch [
         known = along (λ (x : Shown). IsKnown t.root x.keys x.texts) as_before inv.known;
         fit = along (λ es. AreFit es t.flights.items) keys_are inv.fit;
         scratch = w.in-Err.ensures.scratch;
+        explored = along (λ (x : Shown). Knows (state_of x) x.keys c.room_for.new.scratch.explored) as_before (known_alike (state_of (view_of {W = g.row.W.Denot} t)) t.keys t.scratch.explored c.room_for.new.scratch.explored c.room_for.ensures.known inv.explored);
         room = inv.room;
       })
 ]

@@ -1,5 +1,6 @@
 use Rattle.std.proofs.Common.{◌≡◌, ◌<◌, refl, ap, sym, ◌∙◌, append-nil, arith, length, subst as along}
 use Rattle.std.specs.Prelude.{ℕ, All, Some, None, map, slice_index_or}
+use Rattle.std.proofs.lemmas.Bool.{false≢true}
 use Rattle.std.proofs.lemmas.Grind.{common_steps}
 use Rattle.std.proofs.lemmas.List.Elements.{All-get_or}
 use Rattle.dh_syntax.specs.declared.outcomes.Outcome as program
@@ -55,7 +56,8 @@ invariant_of-self g c =
       asks = ap outcome_of state_is ∙ asks_after (state_of v) keys n o inside d inv.asks ∙ ap (λ es. ask_of (rows_of es)) (sym keys_is);
       known = along (λ es. IsKnown t.root es t.texts.items) (sym keys_is) (decided_known keys n o inside d t.root t.texts.items inv.known);
       fit = along (λ es. AreFit es t.flights.items) (sym keys_is) (fit_decided keys n o t.flights.items inside d tt inv.fit);
-      scratch = along (λ m. IsRoomy m t.scratch) (sym sizes) inv.scratch;
+      scratch = let r = along (λ m. IsRoomy m t.scratch) (sym sizes) inv.scratch in record { explored = record { marks = r.explored.marks; waiting = r.explored.waiting; blocking = r.explored.blocking }; seen = r.seen; trail = r.trail };
+      explored = λ h. absurd (false≢true h);
       room = grind (arith, common_steps);
     }
 

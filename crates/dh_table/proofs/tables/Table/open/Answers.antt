@@ -1,6 +1,7 @@
 use Rattle.std.proofs.Common.{ap, sym, ◌∙◌, subst as along, arith}
 use Rattle.std.specs.Prelude.{ℕ, List, ◌<◌, [], None, length}
 use Rattle.std.proofs.lemmas.List.Elements.{All-nil, All-same}
+use Rattle.std.proofs.lemmas.Bool.{false≢true}
 use Rattle.std.proofs.lemmas.Grind.{common_steps}
 use Rattle.dh_syntax.specs.Imports.Machine.{outcome_of}
 use Rattle.dh_syntax.specs.Expressions.Bridge.{term}
@@ -51,7 +52,8 @@ invariant_of-result g c =
       asks = ap outcome_of (empty_state t empty) ∙ opened_asks root keys m;
       known = known;
       fit = along (λ (fs : List Flight). AreFit keys fs) (sym c.new-5.ensures.items) (fit_opened keys (all_new root keys m));
-      scratch = (rw c.len-count.ensures at c.in_ok-scratch.ensures);
+      scratch = (rw c.len-count.ensures at c.in_ok-scratch.ensures.room);
+      explored = λ h. absurd (false≢true (sym c.in_ok-scratch.ensures.unknown ∙ h));
       room = grind (arith, common_steps);
     }
 

@@ -32,5 +32,6 @@ invariant_of-self g c =
       known = c.self.invariant.known;
       fit = c.self.invariant.fit;
       scratch = c.self.invariant.scratch;
+      explored = c.self.invariant.explored;
       room = grind (arith, common_steps);
     }

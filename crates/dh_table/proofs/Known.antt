@@ -1,0 +1,361 @@
+-- What is known from earlier searches: it serves a search, grows as keys are seen, and stays true through steps.
+use Rattle.std.specs.Prelude.{◌≡◌, ◌⊎◌, ◌<◌, ◌≤◌, ℕ, Bool, true, false, if◌then◌else◌, List, [], ◌∷◌, length, replicate, slice_set, Option, Some, None, is_none, IsSome, refl}
+use Rattle.std.proofs.Common.{ap, sym, ◌∙◌, subst, arith, inl, inr}
+use Rattle.std.proofs.lemmas.Bool.Decides.{eqb_tells}
+use Rattle.std.proofs.lemmas.List.{get_or-set_same, get_or-set_other}
+use Rattle.dh_syntax.specs.declared.locations.Key.{Key}
+use Rattle.dh_syntax.specs.Expressions.Tree.{Term}
+use Rattle.dh_syntax.specs.Imports.Machine as machine
+use Rattle.dh_syntax.specs.Imports.Machine.{IsAmong, Task, State, Event, IsDue, IsOpen, May, Wanted, by_root, by_key, effect, after_all, leads_by, leads_to, outcome_of, root_walk, stage_of}
+use Rattle.dh_syntax.specs.Imports.Outcomes.{Outcome}
+use Rattle.dh_syntax.specs.Imports.Keys.{key_eq}
+use Rattle.dh_syntax.specs.Imports.Records.{lookup}
+use Rattle.dh_syntax.specs.Imports.Replay.{Replays, Step, has_too_many, root_end}
+use Rattle.dh_syntax.specs.Imports.Resolver.{TextOf, LookOf, Plan, Unknown, Now, Walks, Asks, plan, Stage, Lacks, Has, Meets, Waits, of_walk, of_bare, of_plan, stage}
+use Rattle.dh_syntax.specs.Imports.Walk.{Ask, Walked, Ready, Fails, Turns, Needs, course, ending_by, undecided, walk, wants}
+use Rattle.dh_laws.proofs.KeyOrder.{none-some}
+use Rattle.dh_import_laws.proofs.Calm.{IsWaits}
+use Rattle.dh_import_laws.proofs.Facts.{Grows, step-grows}
+use Rattle.dh_import_laws.proofs.Grow.{Longer as Longer', longer-itself, OnWait, PlanGrown, StageGrown, StageTold, plan-grown, stage-grown, stage-told}
+use Rattle.dh_import_laws.proofs.Keep.{lawful-keeps}
+use Rattle.dh_import_laws.proofs.Plans.{among_wants, wanted-undecided}
+use Rattle.dh_demand.specs.Results.{ask_of, number_of}
+use Rattle.dh_demand.specs.Wants.{AreMarked}
+use Rattle.dh_table.specs.declared.steps.Flight.{Flight}
+use Rattle.dh_table.specs.declared.steps.Job.{Job}
+use Rattle.dh_table.specs.declared.texts.Entrant.{Entrant}
+use Rattle.dh_table.specs.declared.texts.Look.{Look}
+use Rattle.dh_table.specs.declared.texts.Text.{Text}
+use Rattle.dh_table.specs.declared.visits.Reach.TheVariants as reaches
+use Rattle.dh_table.specs.Inside.Reading.{IsNumbered, IsReach, record_by}
+use Rattle.dh_table.specs.Inside.Searching.{AreKnown, IsExplored, IsFound, IsMarked, IsSeen, IsTaskAt, IsWaiting, Stands, is_set, number_at}
+use Rattle.dh_table.specs.States.{rows_of, key_named, task_of}
+use Rattle.dh_table.proofs.Courses.{IsMet, course_same, walk-met}
+use Rattle.dh_table.proofs.Reading.{number_names}
+use Rattle.dh_table.proofs.RootEnds.{no_end}
+use Rattle.dh_table.proofs.Seeing.{leads_stand, marked_kept, stage_stands, TaskAt, task_at}
+
+-- ---- undecided keys
+
+among_undecided : (ask : Ask) (k : Key) (ks : List Key) → IsAmong k (undecided ask ks) → IsAmong k ks × (ask k ≡ None)
+among_undecided ask k [] m = absurd m
+among_undecided ask k (j ∷ js) m = go (ask j) refl m (λ n. among_undecided ask k js n)
+  where
+    go : (o : Option Outcome) → ask j ≡ o → IsAmong k (if is_none o then j ∷ undecided ask js else undecided ask js)
+        → (IsAmong k (undecided ask js) → IsAmong k js × (ask k ≡ None)) → IsAmong k (j ∷ js) × (ask k ≡ None)
+    go None e (inl p) f = (inl p, subst (λ x. ask x ≡ None) p e)
+    go None e (inr n) f = (inr (f n).0, (f n).1)
+    go (Some o) e n f = (inr (f n).0, (f n).1)
+
+abbrev Longer : Ask → Ask → Type 0
+Longer less more = (k : Key) (o : Outcome) → less k ≡ Some o → more k ≡ Some o
+
+before : (less more : Ask) → Longer less more → (k : Key) → more k ≡ None → less k ≡ None
+before less more h k n = go (less k) refl
+  where
+    go : (o : Option Outcome) → less k ≡ o → less k ≡ None
+    go None e = e
+    go (Some o) e = none-some n (h k o e)
+
+-- ---- a key whose last step is due leads to none
+
+waits-none : {P : Type 0} {y : Key} (s : Stage) → (IsWaits s → P) → s ≡ Waits y → P
+waits-none s f h = f (subst IsWaits (sym h) tt)
+
+due_walk : (ask : Ask) (parent : Option Key) (e : Term) (allow : Option (List ℕ)) (w : Walked Term) (y : Key) → IsMet ask w (course parent ask e) → IsDue (of_walk allow w) → IsAmong y (wants parent ask e) → ⊥
+due_walk ask parent e allow (Ready x) y h d m = let a = among_undecided ask y (course parent ask e).asked m in h.1 y a.0 a.1
+due_walk ask parent e allow (Fails b) y h d m = let a = among_undecided ask y (course parent ask e).asked m in h.1 y a.0 a.1
+due_walk ask parent e allow (Turns j) y h d m = let a = among_undecided ask y (course parent ask e).asked m in h.1 y a.0 a.1
+due_walk ask parent e allow (Needs z) y h d m = d
+
+due_bare : (j y : Key) (o : Option Outcome) → IsDue (of_bare j o) → IsAmong y (if is_none o then j ∷ [] else []) → ⊥
+due_bare j y None d m = d
+due_bare j y (Some o) d m = m
+
+due_plan : (ask : Ask) (k y : Key) (p : Plan) → IsDue (of_plan ask k p) → IsAmong y (leads_by ask k p) → ⊥
+due_plan ask k y (Unknown p) d m = m
+due_plan ask k y (Now i) d m = m
+due_plan ask k y (Walks e allow) d m = due_walk ask (Some k) e allow (walk (Some k) ask e) y (walk-met (Some k) ask e) d m
+due_plan ask k y (Asks j) d m = due_bare j y (ask j) d m
+
+pub due_leads : (s : State) (k y : Key) → IsDue (stage_of s k) → IsAmong y (leads_to s k) → ⊥
+due_leads s k y d m = due_plan (outcome_of s) k y (plan s.recorded k) d m
+
+-- ---- where a task is open the root is undecided
+
+root_met : (ask : Ask) (root : Term) (w : Walked Term) (y : Key) → walk None ask root ≡ w → IsMet ask w (course None ask root) → IsAmong y (wants None ask root) → (x : Key) × (walk None ask root ≡ Needs x)
+root_met ask root (Ready x) y e h m = let a = among_undecided ask y (course None ask root).asked m in absurd (h.1 y a.0 a.1)
+root_met ask root (Fails b) y e h m = let a = among_undecided ask y (course None ask root).asked m in absurd (h.1 y a.0 a.1)
+root_met ask root (Turns j) y e h m = let a = among_undecided ask y (course None ask root).asked m in absurd (h.1 y a.0 a.1)
+root_met ask root (Needs x) y e h m = (x, e)
+
+pub wanted_needs : (s : State) {k : Key} → Wanted s k → (y : Key) × (root_walk s ≡ Needs y)
+wanted_needs s (by_root {k = k} m) = root_met (outcome_of s) s.root (walk None (outcome_of s) s.root) k refl (walk-met None (outcome_of s) s.root) m
+wanted_needs s (by_key {j = j} {k = k} w m) = wanted_needs s w
+
+pub open_needs : (s : State) (t : Task) → IsOpen s t → (y : Key) × (root_walk s ≡ Needs y)
+open_needs s t o = wanted_needs s (task_at s t o.due).wanted
+
+-- of keys that are few
+pub found_undecided : (s : State) (keys : List Entrant) (o : Option Job) → has_too_many s ≡ false → IsFound s keys o → IsSome o → root_end s ≡ None
+found_undecided s keys (Some j) few f h = let n = open_needs s (task_of keys j) f.open_task in no_end s n.0 few n.1
+found_undecided s keys None few f h = let e : ⊥ = cc in absurd e
+
+-- ---- steps
+
+-- From s to s' nothing is lost, each import of a text ends alike, and each wanted key that gets an outcome had its last step due.
+pub record GoesOn (s s' : State) : Type 0 where
+  pub grows : Grows s s'
+  pub root_is : s'.root ≡ s.root
+  pub mild : (parent : Option Key) (k : Key) → ending_by parent k (outcome_of s' k) ≡ ending_by parent k (outcome_of s k)
+  pub freed : (k : Key) → Wanted s k → (outcome_of s' k ≡ None) ⊎ IsDue (stage_of s k)
+
+module _ (s s' : State) (g : GoesOn s s') where
+  abbrev the-ask : Ask
+  the-ask = outcome_of s
+
+  abbrev the-ask' : Ask
+  the-ask' = outcome_of s'
+
+  wants_back : (parent : Option Key) (e : Term) (y : Key) → IsAmong y (wants parent the-ask' e) → IsAmong y (wants parent the-ask e)
+  wants_back parent e y m =
+      let a = among_undecided the-ask' y (course parent the-ask' e).asked m in
+      among_wants the-ask y (course parent the-ask e).asked (subst (λ c. IsAmong y c.asked) (course_same the-ask the-ask' g.mild parent e) a.0) (before the-ask the-ask' g.grows.knows y a.1)
+
+  wants_on : (parent : Option Key) (e : Term) (y : Key) → IsAmong y (wants parent the-ask e) → the-ask' y ≡ None → IsAmong y (wants parent the-ask' e)
+  wants_on parent e y m n =
+      let a = among_undecided the-ask y (course parent the-ask e).asked m in
+      among_wants the-ask' y (course parent the-ask' e).asked (subst (λ c. IsAmong y c.asked) (sym (course_same the-ask the-ask' g.mild parent e)) a.0) n
+
+  bare_on : (j y : Key) (o : Option Outcome) → IsAmong y (if is_none o then j ∷ [] else []) → the-ask' y ≡ None → IsAmong y (if is_none (the-ask' j) then j ∷ [] else [])
+  bare_on j y None (inl p) n = subst (λ x. IsAmong y (if is_none x then j ∷ [] else [])) (sym (subst (λ x. the-ask' x ≡ None) (sym p) n)) (inl p)
+  bare_on j y None (inr m) n = absurd m
+  bare_on j y (Some o) m n = absurd m
+
+  bare_back : (j y : Key) (o : Option Outcome) → the-ask' j ≡ o → IsAmong y (if is_none o then j ∷ [] else []) → IsAmong y (if is_none (the-ask j) then j ∷ [] else [])
+  bare_back j y None e m = subst (λ x. IsAmong y (if is_none x then j ∷ [] else [])) (sym (before the-ask the-ask' g.grows.knows j e)) m
+  bare_back j y (Some o) e m = absurd m
+
+  leads_on : (k y : Key) (p q : Plan) → PlanGrown p q → IsAmong y (leads_by the-ask k p) → the-ask' y ≡ None → IsAmong y (leads_by the-ask' k q)
+  leads_on k y (Unknown p) q h m n = absurd m
+  leads_on k y (Now i) q h m n = absurd m
+  leads_on k y (Walks e allow) q h m n = subst (λ x. IsAmong y (leads_by the-ask' k x)) (sym h) (wants_on (Some k) e y m n)
+  leads_on k y (Asks j) q h m n = subst (λ x. IsAmong y (leads_by the-ask' k x)) (sym h) (bare_on j y (the-ask j) m n)
+
+  leads_back : (k y z : Key) (p q : Plan) → PlanGrown p q → of_plan the-ask k p ≡ Waits z → IsAmong y (leads_by the-ask' k q) → IsAmong y (leads_by the-ask k p)
+  leads_back k y z (Unknown p) q h w m = waits-none (Lacks p) (λ n. absurd n) w
+  leads_back k y z (Now i) q h w m = waits-none (Has i) (λ n. absurd n) w
+  leads_back k y z (Walks e allow) q h w m = wants_back (Some k) e y (subst (λ x. IsAmong y (leads_by the-ask' k x)) h m)
+  leads_back k y z (Asks j) q h w m = bare_back j y (the-ask' j) refl (subst (λ x. IsAmong y (leads_by the-ask' k x)) h m)
+
+  plans_grown : (k : Key) → PlanGrown (plan s.recorded k) (plan s'.recorded k)
+  plans_grown k = plan-grown s.recorded s'.recorded g.grows.longer k
+
+  pub wanted_on : {k : Key} → Wanted s k → outcome_of s' k ≡ None → Wanted s' k
+  wanted_on (by_root {k = k} m) n = by_root (subst (λ e. IsAmong k (wants None the-ask' e)) (sym g.root_is) (wants_on None s.root k m n))
+  wanted_on (by_key {j = j} {k = k} w m) n =
+      elim (g.freed j w) [
+        | inl u ↦ by_key (wanted_on w u) (leads_on j k (plan s.recorded j) (plan s'.recorded j) (plans_grown j) m n)
+        | inr d ↦ absurd (due_leads s j k d m)
+      ]
+
+  still_waits : (k y : Key) → stage_of s k ≡ Waits y → outcome_of s' y ≡ None → stage_of s' k ≡ Waits y
+  still_waits k y e n =
+      let a : StageGrown the-ask' (Waits y) (stage_of s' k) = subst (λ x. StageGrown the-ask' x (stage_of s' k)) e (stage-grown s.recorded s'.recorded g.grows.longer the-ask the-ask' g.grows.knows k) in
+      subst (λ o. OnWait y (stage_of s' k) o) n a
+
+  -- the keys with their numbers, and the marks
+  module _ (es es' : List Entrant) (marks marks' waiting waiting' : List Bool) (blocking blocking' : List ℕ)
+      (numbers : (k : Key) (n : ℕ) → number_of (rows_of es) k ≡ Some n → number_of (rows_of es') k ≡ Some n)
+      (longer : length es ≤ length es')
+      (names : (n : ℕ) → n < length es → key_named es' n ≡ key_named es n)
+      (fewer : (n : ℕ) → is_set marks' n ≡ true → (is_set marks n ≡ true) × (n < length es → Wanted s (key_named es n) → outcome_of s' (key_named es n) ≡ None))
+      (left : (n : ℕ) → is_set marks n ≡ true → n < length es → outcome_of s' (key_named es n) ≡ None → is_set marks' n ≡ true)
+      (still : (n : ℕ) → is_set waiting' n ≡ true → (is_set waiting n ≡ true) × (IsWaiting s es marks n (number_at blocking n) → outcome_of s' (key_named es (number_at blocking n)) ≡ None))
+      (blocked : (n : ℕ) → number_at blocking' n ≡ number_at blocking n) where
+    marked_on : (k : Key) → IsMarked es marks k → outcome_of s' k ≡ None → IsMarked es' marks' k
+    marked_on k m u =
+        let i = number_names es k m.number m.number_is in
+        record { number = m.number; number_is = numbers k m.number m.number_is; set = left m.number m.set i.0 (subst (λ x. outcome_of s' x ≡ None) (sym i.1) u) }
+
+    waits_on : (n m : ℕ) → IsWaiting s es marks n m → outcome_of s' (key_named es m) ≡ None → IsWaiting s' es' marks' n m
+    waits_on n m w u =
+        let own = names n w.inside in
+        let other = names m w.blocker in
+        let more = longer in
+        record {
+          inside = let a = w.inside in omega arith;
+          blocker = let a = w.blocker in omega arith;
+          stage_is = subst (λ x. stage_of s' x ≡ Waits (key_named es' m)) (sym own) (still_waits (key_named es n) (key_named es m) w.stage_is u ∙ ap (λ x. Waits x) (sym other));
+          leads =
+              λ j a.
+              let b = subst (λ x. IsAmong j (leads_to s' x)) own a in
+              marked_on j (w.leads j (leads_back (key_named es n) j (key_named es m) (plan s.recorded (key_named es n)) (plan s'.recorded (key_named es n)) (plans_grown (key_named es n)) w.stage_is b))
+              (lead_undecided (key_named es n) j b);
+        }
+      where
+        lead_undecided : (k j : Key) → IsAmong j (leads_to s' k) → outcome_of s' j ≡ None
+        lead_undecided k j a = go (plan s'.recorded k) a
+          where
+            go : (p : Plan) → IsAmong j (leads_by the-ask' k p) → the-ask' j ≡ None
+            go (Unknown p) b = absurd b
+            go (Now i) b = absurd b
+            go (Walks e allow) b = (among_undecided the-ask' j (course (Some k) the-ask' e).asked b).1
+            go (Asks i) b = by (the-ask' i) refl b
+              where
+                by : (o : Option Outcome) → the-ask' i ≡ o → IsAmong j (if is_none o then i ∷ [] else []) → the-ask' j ≡ None
+                by None e (inl p) = subst (λ x. the-ask' x ≡ None) p e
+                by None e (inr c) = absurd c
+                by (Some o) e c = absurd c
+
+    pub known_on : AreKnown s es marks waiting blocking → AreKnown s' es' marks' waiting' blocking'
+    known_on e = record {
+      by_root =
+          λ k m.
+          let b = subst (λ x. IsAmong k (wants None the-ask' x)) g.root_is m in
+          marked_on k (e.by_root k (wants_back None s.root k b)) (among_undecided the-ask' k (course None the-ask' s.root).asked b).1;
+      sound =
+          λ n h.
+          let f = fewer n h in
+          let a = e.sound n f.0 in
+          let more = longer in
+          (let l = a.0 in omega arith, subst (Wanted s') (sym (names n a.0)) (wanted_on a.1 (f.1 a.0 a.1)));
+      waits =
+          λ n h.
+          let f = still n h in
+          let w = e.waits n f.0 in
+          subst (λ m. IsWaiting s' es' marks' n m) (sym (blocked n)) (waits_on n (number_at blocking n) w (f.1 w));
+    }
+
+-- ---- a step that decides no key
+
+module _ (s s' : State) (grows : Grows s s') (root_is : s'.root ≡ s.root) (asks_are : outcome_of s' ≡ outcome_of s) where
+  quiet_step : GoesOn s s'
+  quiet_step = record {
+    grows = grows;
+    root_is = root_is;
+    mild = λ parent k. ap (λ (f : Ask). ending_by parent k (f k)) asks_are;
+    freed = λ k w. inl (ap (λ (f : Ask). f k) asks_are ∙ wanted-undecided w);
+  }
+
+  waited : (k y : Key) → stage_of s k ≡ Waits y → outcome_of s' y ≡ None
+  waited k y e = ap (λ (f : Ask). f y) asks_are ∙ subst (λ x. StageTold s.recorded (outcome_of s) k x) e (stage-told s.recorded (outcome_of s) k)
+
+  pub known_quiet : (es es' : List Entrant) (marks marks' waiting waiting' : List Bool) (blocking blocking' : List ℕ)
+      → ((k : Key) (n : ℕ) → number_of (rows_of es) k ≡ Some n → number_of (rows_of es') k ≡ Some n) → length es ≤ length es' → ((n : ℕ) → n < length es → key_named es' n ≡ key_named es n)
+      → ((n : ℕ) → is_set marks' n ≡ is_set marks n) → ((n : ℕ) → is_set waiting' n ≡ is_set waiting n) → ((n : ℕ) → number_at blocking' n ≡ number_at blocking n)
+      → AreKnown s es marks waiting blocking → AreKnown s' es' marks' waiting' blocking'
+  known_quiet es es' marks marks' waiting waiting' blocking blocking' numbers longer names marks_are waiting_are blocking_are e =
+      known_on s s' quiet_step es es' marks marks' waiting waiting' blocking blocking' numbers longer names
+      (λ n h. (sym (marks_are n) ∙ h, λ l w. ap (λ (f : Ask). f (key_named es n)) asks_are ∙ wanted-undecided w))
+      (λ n h l u. marks_are n ∙ h)
+      (λ n h. (sym (waiting_are n) ∙ h, λ w. waited (key_named es n) (key_named es (number_at blocking n)) w.stage_is))
+      blocking_are e
+
+  pub known_still : (es : List Entrant) (marks waiting : List Bool) (blocking : List ℕ) → AreKnown s es marks waiting blocking → AreKnown s' es marks waiting blocking
+  known_still es marks waiting blocking e = known_quiet es es marks marks waiting waiting blocking blocking (λ k n h. h) (omega arith) (λ n l. refl) (λ n. refl) (λ n. refl) (λ n. refl) e
+
+-- a step of a history
+pub step_grows : (root : Term) (drawn : List Task) (news : List machine.News) (history : List Step) (s t : State) (e : Event) → Replays root drawn news history s → May e s → t ≡ effect e s → Grows s t
+step_grows root drawn news history s t e r may p =
+    subst (Grows s) (sym p)
+    (subst (λ x. Grows x (effect e x)) r.state_is (step-grows e (after_all root r.events) (lawful-keeps root r.events r.lawful) (subst (May e) (sym r.state_is) may)))
+
+-- ---- a step that changes no more than what is in flight
+
+module _ (s s' : State) (root_is : s'.root ≡ s.root) (recorded_is : s'.recorded ≡ s.recorded) (outcomes_are : s'.outcomes ≡ s.outcomes) where
+  pub known_flights : (es : List Entrant) (marks waiting : List Bool) (blocking : List ℕ) → AreKnown s es marks waiting blocking → AreKnown s' es marks waiting blocking
+  known_flights es marks waiting blocking e =
+      known_still s s' (record { longer = subst (λ r. Longer' s.recorded r) (sym recorded_is) (longer-itself s.recorded); knows = λ k o h. ap (λ os. lookup key_eq os k) outcomes_are ∙ h }) root_is
+      (λ i k. lookup key_eq (outcomes_are i) k) es marks waiting blocking e
+
+-- ---- a search
+
+pub known_explored : (s : State) (keys : List Entrant) (flights : List Flight) (marks waiting seen : List Bool) (blocking : List ℕ) → AreKnown s keys marks waiting blocking
+    → ((n : ℕ) → is_set seen n ≡ true → is_set waiting n ≡ true) → IsExplored s keys flights marks seen
+known_explored s keys flights marks waiting seen blocking e only = record {
+  by_root = e.by_root;
+  sound = e.sound;
+  closed = λ n h. let w = e.waits n (only n h) in record { leads = w.leads; tasks = λ t d. absurd (subst (λ x. IsTaskAt (key_named keys n) x t) w.stage_is d) };
+}
+
+-- of a beginning
+pub explored_known : (s : State) (keys : List Entrant) (flights : List Flight) (marks seen waiting : List Bool) (blocking : List ℕ) → IsExplored s keys flights marks seen
+    → ((n : ℕ) → is_set waiting n ≡ true → ⊥) → AreKnown s keys marks waiting blocking
+explored_known s keys flights marks seen waiting blocking e none = record { by_root = e.by_root; sound = e.sound; waits = λ n h. absurd (none n h) }
+
+-- ---- a key that is seen
+
+module _ (s : State) (keys : List Entrant) (n : ℕ) (marks marks' : List Bool) (set : is_set marks n ≡ true) (fit : length keys ≤ length marks)
+    (marked : AreMarked (rows_of keys) (leads_to s (key_named keys n)) marks marks') (numbered : (j : Key) → IsAmong j (leads_to s (key_named keys n)) → IsNumbered (rows_of keys) j) where
+  pub lead_marked : (j : Key) → IsAmong j (leads_to s (key_named keys n)) → IsMarked keys marks' j
+  lead_marked j m =
+      let x = numbered j m in
+      let inside = number_names keys j x.0 x.1 in
+      let l : x.0 < length marks = let a = inside.0 in omega arith in
+      record { number = x.0; number_is = x.1; set = marked.set x.0 l (j, m, x.1) }
+
+  kept_mark : (j : Key) → IsMarked keys marks j → IsMarked keys marks' j
+  kept_mark j m = marked_kept keys marks marks' marked.kept j m
+
+  pub see_known : (waiting : List Bool) (blocking : List ℕ) → AreKnown s keys marks waiting blocking → AreKnown s keys marks' waiting blocking
+  see_known waiting blocking e = record {
+    by_root = λ k m. kept_mark k (e.by_root k m);
+    sound =
+        λ x h.
+        elim (marked.only x h) [
+          | inl old ↦ e.sound x old
+          | inr (j, m, q) ↦ (let inside = number_names keys j x q in (inside.0, subst (Wanted s) (sym inside.1) (by_key (e.sound n set).1 m)))
+        ];
+    waits = λ x h. let w = e.waits x h in record { inside = w.inside; blocker = w.blocker; stage_is = w.stage_is; leads = λ j m. kept_mark j (w.leads j m) };
+  }
+
+-- what waits is seen to wait for the key of a number
+pub reach_waits : (es : List Entrant) (k : Key) (x : Stage) (m : ℕ) → IsReach (rows_of es) k x (reaches.Wait m) → (m < length es) × (x ≡ Waits (key_named es m))
+reach_waits es k (Lacks (TextOf l)) m r = absurd r
+reach_waits es k (Lacks (LookOf d)) m r = absurd r
+reach_waits es k (Has i) m r = absurd r
+reach_waits es k (Meets j) m r = absurd r
+reach_waits es k (Waits y) m r = let a = number_names es y m r in (a.0, ap (λ z. Waits z) (sym a.1))
+
+pub one_more_waits : (s : State) (keys : List Entrant) (n m : ℕ) (marks waiting waiting' : List Bool) (blocking blocking' : List ℕ) → n < length blocking
+    → waiting' ≡ slice_set waiting n true → blocking' ≡ slice_set blocking n m → IsWaiting s keys marks n m → AreKnown s keys marks waiting blocking → AreKnown s keys marks waiting' blocking'
+one_more_waits s keys n m marks waiting waiting' blocking blocking' l p q w e = record {
+  by_root = e.by_root;
+  sound = e.sound;
+  waits =
+      λ x h.
+      elim (eqb_tells x n) [
+        | inl y ↦ subst (λ z. IsWaiting s keys marks x z) (sym (ap (λ ns. number_at ns x) q ∙ ap (number_at (slice_set blocking n m)) y.1 ∙ get_or-set_same blocking n m 0 l)) (subst (λ z. IsWaiting s keys marks z m) (sym y.1) w)
+        | inr y ↦
+            subst (λ z. IsWaiting s keys marks x z) (sym (ap (λ ns. number_at ns x) q ∙ get_or-set_other blocking n x m 0 y.1))
+            (e.waits x (sym (get_or-set_other waiting n x true false y.1) ∙ ap (λ bs. is_set bs x) (sym p) ∙ h))
+      ];
+}
+
+-- a key of a table that is seen
+module _ (keys : List Entrant) (texts : List Text) (looks : List Look) (flights : List Flight) (s : State) (p : Stands keys texts looks flights s) (n : ℕ) (inside : n < length keys)
+    (marks marks' : List Bool) (set : is_set marks n ≡ true) (fit : length keys ≤ length marks)
+    (marked : AreMarked (rows_of keys) (leads_by (ask_of (rows_of keys)) (key_named keys n) (plan (record_by texts looks) (key_named keys n))) marks marks')
+    (numbered : (j : Key) → IsAmong j (leads_by (ask_of (rows_of keys)) (key_named keys n) (plan (record_by texts looks) (key_named keys n))) → IsNumbered (rows_of keys) j) where
+  its-leads : leads_to s (key_named keys n) ≡ leads_by (ask_of (rows_of keys)) (key_named keys n) (plan (record_by texts looks) (key_named keys n))
+  its-leads = leads_stand keys texts looks flights s p (key_named keys n)
+
+  marked_so : AreMarked (rows_of keys) (leads_to s (key_named keys n)) marks marks'
+  marked_so = subst (λ ks. AreMarked (rows_of keys) ks marks marks') (sym its-leads) marked
+
+  numbered_so : (j : Key) → IsAmong j (leads_to s (key_named keys n)) → IsNumbered (rows_of keys) j
+  numbered_so j m = numbered j (subst (IsAmong j) its-leads m)
+
+  pub key_known : (waiting : List Bool) (blocking : List ℕ) → AreKnown s keys marks waiting blocking → AreKnown s keys marks' waiting blocking
+  key_known waiting blocking e = see_known s keys n marks marks' set fit marked_so numbered_so waiting blocking e
+
+  pub key_waits : (m : ℕ) → IsReach (rows_of keys) (key_named keys n) (stage (record_by texts looks) (ask_of (rows_of keys)) (key_named keys n)) (reaches.Wait m) → IsWaiting s keys marks' n m
+  key_waits m r =
+      let w = reach_waits keys (key_named keys n) (stage (record_by texts looks) (ask_of (rows_of keys)) (key_named keys n)) m r in
+      record {
+        inside = inside;
+        blocker = w.0;
+        stage_is = stage_stands keys texts looks flights s p (key_named keys n) ∙ w.1;
+        leads = lead_marked s keys n marks marks' set fit marked_so numbered_so;
+      }

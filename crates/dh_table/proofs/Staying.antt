@@ -1,0 +1,166 @@
+-- What is known from earlier searches stays true where a text is recorded, and where a key gets a value that each text may read.
+use Rattle.std.specs.Prelude.{◌≡◌, ◌⊎◌, ◌<◌, ◌≤◌, ℕ, zero, suc, Bool, true, false, if◌then◌else◌, List, [], ◌∷◌, length, slice_set, Option, Some, None, is_none, refl}
+use Rattle.std.proofs.Common.{ap, sym, ◌∙◌, subst, arith, inl, inr}
+use Rattle.std.proofs.lemmas.Bool.{false≢true}
+use Rattle.std.proofs.lemmas.Bool.Decides.{eqb_tells}
+use Rattle.std.proofs.lemmas.List.{get_or-set_other, length-set}
+use Rattle.dh_syntax.specs.declared.locations.Key.{Key}
+use Rattle.dh_syntax.specs.declared.locations.Loc.{Loc}
+use Rattle.dh_syntax.specs.declared.outcomes.Origin.{Origin}
+use Rattle.dh_syntax.specs.declared.outcomes.Origin.TheVariants as origins
+use Rattle.dh_syntax.specs.declared.outcomes.Outcome as program
+use Rattle.dh_syntax.specs.declared.outcomes.Outcome.TheVariants as outcomes
+use Rattle.dh_syntax.specs.declared.outcomes.Why.{Why}
+use Rattle.dh_syntax.specs.declared.outcomes.Why.TheVariants.{Cors}
+use Rattle.dh_syntax.specs.Expressions.Tree.{Term}
+use Rattle.dh_syntax.specs.Imports.Keys.{key_eq}
+use Rattle.dh_syntax.specs.Imports.Locations.{cors, cors_between, origin}
+use Rattle.dh_syntax.specs.Imports.Machine as machine
+use Rattle.dh_syntax.specs.Imports.Machine.{Task, State, IsDue, May, Wanted, effect, outcome_of, stage_of}
+use Rattle.dh_syntax.specs.Imports.Outcomes.{plain}
+use Rattle.dh_syntax.specs.Imports.Replay.{Replays, Step}
+use Rattle.dh_syntax.specs.Imports.Resolver.{Stage, Waits}
+use Rattle.dh_syntax.specs.Imports.Walk.{Goes, Stops, allowed, ending_by, place}
+use Rattle.dh_laws.proofs.KeyOrder.{bool-case, none-some, key_eq-true, key_eq-itself, some-equal}
+use Rattle.dh_import_laws.proofs.Due.{in_flight_due}
+use Rattle.dh_import_laws.proofs.Facts.{Grows}
+use Rattle.dh_import_laws.proofs.Grow.{StageTold, longer-itself, stage-told}
+use Rattle.dh_import_laws.proofs.Plans.{wanted-undecided}
+use Rattle.dh_demand.specs.Results.{number_of}
+use Rattle.dh_table.specs.declared.explored.Explored.{Explored}
+use Rattle.dh_table.specs.declared.texts.Entrant.{Entrant}
+use Rattle.dh_table.specs.Inside.Entering.{AreDistinct, AreMore, decided_at, keys_in}
+use Rattle.dh_table.specs.Inside.Searching.{IsExploredBy, IsSameKnown, IsUnblocked, Knows, is_open_origin, is_open_value, is_set, number_at}
+use Rattle.dh_table.specs.States.{rows_of, key_named}
+use Rattle.dh_table.proofs.Deciding.{decided_length, names, number_itself, numbers}
+use Rattle.dh_table.proofs.Known.{GoesOn, known_on, known_quiet, step_grows}
+use Rattle.dh_table.proofs.NewKeys.{entrant_grown}
+use Rattle.dh_table.proofs.TextLanding.{as_many_more, name_grown}
+
+-- ---- more room
+
+pub known_alike : (s : State) (es : List Entrant) (old new : Explored) → IsSameKnown old new → Knows s es old → Knows s es new
+known_alike s es old new same k h =
+    known_quiet s s (record { longer = longer-itself s.recorded; knows = λ x o q. q }) refl refl es es old.marks new.marks old.waiting new.waiting old.blocking.items new.blocking.items (λ x n q. q) (omega arith) (λ n l. refl)
+    same.marks_are same.waiting_are same.blocking_are (k (sym same.known_is ∙ h))
+
+-- ---- more keys
+
+pub known_more : (es es' : List Entrant) (ks : List Key) → AreMore es ks es' → (s s' : State) → Grows s s' → s'.root ≡ s.root → outcome_of s' ≡ outcome_of s → (old new : Explored) → IsSameKnown old new → Knows s es old → Knows s' es' new
+known_more es es' ks m s s' grows root_is asks_are old new same k h =
+    known_quiet s s' grows root_is asks_are es es' old.marks new.marks old.waiting new.waiting old.blocking.items new.blocking.items
+    (λ x n q. subst (λ (fs : List Entrant). number_of (rows_of fs) x ≡ Some n) (sym m.new_is) (entrant_grown es m.more x n q))
+    (as_many_more es es' ks m)
+    (λ n l. ap (λ (fs : List Entrant). key_named fs n) m.new_is ∙ name_grown es m.more n l)
+    same.marks_are same.waiting_are same.blocking_are (k (sym same.known_is ∙ h))
+
+-- ---- a value that each text may read
+
+between_open : (p c allow : Option (List ℕ)) → is_none c ≡ true → cors_between p c allow ≡ true
+between_open None None allow h = refl
+between_open None (Some c) allow h = refl
+between_open (Some p) None allow h = refl
+between_open (Some p) (Some c) allow h = absurd (false≢true h)
+
+cors_open : (at : Option Loc) (l : Loc) (allow : Option (List ℕ)) → is_none (origin l) ≡ true → cors at l allow ≡ true
+cors_open None l allow h = refl
+cors_open (Some p) l allow h = between_open (origin p) (origin l) allow h
+
+open_allowed : (parent : Option Key) (k : Key) (o : Origin) → is_open_origin k.loc o ≡ true → allowed parent k o ≡ true
+open_allowed parent k (origins.Fetched allow) h = cors_open (place parent) k.loc allow h
+open_allowed parent k origins.Cached h = refl
+open_allowed parent k origins.Made h = refl
+
+open_goes : (parent : Option Key) (k : Key) (o : program.Outcome) → is_open_value k.loc o ≡ true → ending_by parent k (Some (plain o)) ≡ Goes
+open_goes parent k (outcomes.Good v o) h = ap (λ b. if b then Goes else Stops (record { at = parent; why = Cors k.loc })) (open_allowed parent k o h)
+open_goes parent k (outcomes.Bad b) h = absurd (false≢true h)
+
+module _ (root : Term) (drawn : List Task) (news : List machine.News) (history : List Step) (s s' : State) (serial : ℕ) (i : Stage) (limit : Option Why) (es : List Entrant) (n : ℕ) (o : program.Outcome)
+    (l : n < length es) (d : AreDistinct (keys_in es)) (r : Replays root drawn news history s) (may : May (machine.Finished serial (key_named es n) i limit (plain o)) s)
+    (s'-is : s' ≡ effect (machine.Finished serial (key_named es n) i limit (plain o)) s) (undecided : outcome_of s (key_named es n) ≡ None) (is-open : is_open_value (key_named es n).loc o ≡ true) where
+  abbrev its-key : Key
+  its-key = key_named es n
+
+  asks-now : (k : Key) → outcome_of s' k ≡ (if key_eq its-key k then Some (plain o) else outcome_of s k)
+  asks-now k = ap (λ (x : State). outcome_of x k) s'-is
+
+  here : outcome_of s' its-key ≡ Some (plain o)
+  here = asks-now its-key ∙ ap (λ b. if b then Some (plain o) else outcome_of s its-key) (key_eq-itself its-key)
+
+  elsewhere : (k : Key) → (its-key ≡ k → ⊥) → outcome_of s' k ≡ outcome_of s k
+  elsewhere k p =
+      elim (bool-case (key_eq its-key k)) [
+        | inl e ↦ absurd (p (key_eq-true its-key k e))
+        | inr e ↦ asks-now k ∙ ap (λ b. if b then Some (plain o) else outcome_of s k) e
+      ]
+
+  due : IsDue (stage_of s its-key)
+  due = subst (λ x. IsDue (stage_of x its-key)) r.state_is (in_flight_due root r.events serial its-key r.lawful (subst (λ (x : State). machine.InFlight x serial (machine.Finish its-key)) (sym r.state_is) may.0.0))
+
+  mild : (parent : Option Key) (k : Key) → ending_by parent k (outcome_of s' k) ≡ ending_by parent k (outcome_of s k)
+  mild parent k =
+      elim (bool-case (key_eq its-key k)) [
+        | inl e ↦
+            let same = key_eq-true its-key k e in
+            subst (λ x. ending_by parent x (outcome_of s' x) ≡ ending_by parent x (outcome_of s x)) same
+            (ap (ending_by parent its-key) here ∙ open_goes parent its-key o is-open ∙ ap (ending_by parent its-key) (sym undecided))
+        | inr e ↦ ap (ending_by parent k) (asks-now k ∙ ap (λ b. if b then Some (plain o) else outcome_of s k) e)
+      ]
+
+  freed : (k : Key) → Wanted s k → (outcome_of s' k ≡ None) ⊎ IsDue (stage_of s k)
+  freed k w =
+      elim (bool-case (key_eq its-key k)) [
+        | inl e ↦ inr (subst (λ x. IsDue (stage_of s x)) (key_eq-true its-key k e) due)
+        | inr e ↦ inl (asks-now k ∙ ap (λ b. if b then Some (plain o) else outcome_of s k) e ∙ wanted-undecided w)
+      ]
+
+  goes_on : GoesOn s s'
+  goes_on = record {
+    grows = step_grows root drawn news history s s' (machine.Finished serial its-key i limit (plain o)) r may s'-is;
+    root_is = ap (λ (x : State). x.root) s'-is;
+    mild = mild;
+    freed = freed;
+  }
+
+  own_number : (m : ℕ) → m < length es → its-key ≡ key_named es m → m ≡ n
+  own_number m h p = some-equal (sym (number_itself es m d h) ∙ ap (number_of (rows_of es)) (sym p) ∙ number_itself es n d l)
+
+  still_none : (m : ℕ) → m < length es → (m ≡ n → ⊥) → outcome_of s (key_named es m) ≡ None → outcome_of s' (key_named es m) ≡ None
+  still_none m h p u = elsewhere (key_named es m) (λ q. p (own_number m h q)) ∙ u
+
+  module _ (old new : Explored) (u : IsUnblocked (length es) n old new) where
+    mark_left : (m : ℕ) → is_set new.marks m ≡ true → (m ≡ n → ⊥) × (is_set old.marks m ≡ true)
+    mark_left m h =
+        let a : is_set (slice_set old.marks n false) m ≡ true = subst (λ bs. is_set bs m ≡ true) u.marks_are h in
+        elim (eqb_tells m n) [
+          | inl p ↦ absurd (false≢true (sym (unset old.marks m n p.1) ∙ a))
+          | inr p ↦ (p.1, sym (get_or-set_other old.marks n m false false p.1) ∙ a)
+        ]
+      where
+        unset : (bs : List Bool) (x y : ℕ) → x ≡ y → is_set (slice_set bs y false) x ≡ false
+        unset bs x y p = subst (λ z. is_set (slice_set bs y false) z ≡ false) (sym p) (cleared bs y)
+          where
+            cleared : (bs : List Bool) (y : ℕ) → is_set (slice_set bs y false) y ≡ false
+            cleared [] y = refl
+            cleared (b ∷ bs) zero = refl
+            cleared (b ∷ bs) (suc y) = cleared bs y
+
+    waited : (k y : Key) → stage_of s k ≡ Waits y → outcome_of s y ≡ None
+    waited k y e = subst (λ x. StageTold s.recorded (outcome_of s) k x) e (stage-told s.recorded (outcome_of s) k)
+
+    pub known_decided : IsExploredBy s es old → IsExploredBy s' (decided_at es n o) new
+    known_decided e =
+        known_on s s' goes_on es (decided_at es n o) old.marks new.marks old.waiting new.waiting old.blocking.items new.blocking.items
+        (λ k m q. numbers es n o l d k ∙ q)
+        (let a = decided_length es n o (decided_at es n o) refl in omega arith)
+        (λ m h. ap (λ (f : ℕ → Key). f m) (names es n o l d))
+        (λ m h. let a = mark_left m h in (a.1, λ inside w. still_none m inside a.0 (wanted-undecided w)))
+        (λ m h inside none.
+        ap (λ bs. is_set bs m) u.marks_are
+        ∙ get_or-set_other old.marks n m false false (λ p. none-some none (ap (λ x. outcome_of s' (key_named es x)) p ∙ here)) ∙ h)
+        (λ m h. (
+          u.waiting m h,
+          λ w. still_none (number_at old.blocking.items m) w.blocker (u.unblocked m w.inside h) (waited (key_named es m) (key_named es (number_at old.blocking.items m)) w.stage_is),
+        ))
+        (λ m. ap (λ ns. number_at ns m) u.blocking_is)
+        e
