@@ -13,6 +13,7 @@ pub mod LexExamplesLocations
 pub mod LexExamplesTexts
 pub mod LiteralsExamples
 pub mod ParsedExamples
+pub mod PlacesExamples
 pub mod PrintedExamples
 pub mod PrintedExamplesBrackets
 pub mod PrintedOperatorExamples

@@ -14,6 +14,7 @@ pub mod Meaning
 pub mod Noting
 pub mod Numerals
 pub mod Offsets
+pub mod Places
 pub mod Printed
 pub mod Spans
 pub mod Spelling

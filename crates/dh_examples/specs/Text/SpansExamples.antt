@@ -21,12 +21,12 @@ found d (Err fault) = no_spans
 abbrev StandsAt : String → Derivation → Spans → Type 0
 StandsAt text d s = let seen : Result (List TokenKind × Bool) LexFault × Bool × Spans = (fitted d (tokens_of text), derived d, found d (tokens_of text)) in seen ≡ (Ok (map (λ w. w.kind) (text_yield d), true), true, s)
 
-abbrev at : ℕ → ℕ → Spans
+abbrev pub at : ℕ → ℕ → Spans
 at n m = spans n m no_spans
 
 infixr 55 ◌&◌
 -- one node and then others
-abbrev ◌&◌ : Spans → Spans → Spans
+abbrev pub ◌&◌ : Spans → Spans → Spans
 a & b = joined a b
 
 -- a bracketed expression keeps the stretch between its brackets, and the operator has the brackets in its own

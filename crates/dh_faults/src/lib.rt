@@ -1,0 +1,16 @@
+//! Where a type fault stands in a text, and the line that says so.
+//!
+//! ```text
+//! let (e, spans) = parse_spans(alloc, text)?;
+//! let line = Placed { ill: &ill, place: place_of(text, &spans, ill.path.as_slice()) };
+//! ```
+#![tactic(auto)]
+
+mod lines;
+mod places;
+
+pub use lines::Placed;
+pub use places::{Place, place_of};
+
+#[cfg(test)]
+mod tests;

@@ -1,0 +1,67 @@
+//! Places of nodes in texts, with stretches written by hand.
+
+use crate::{Place, Placed, place_of};
+use dh_places::Span;
+use dh_syntax::{Ill, Many};
+use std::alloc::{AllocError, Global};
+use std::test::Fail;
+
+/// A node with no parts.
+fn leaf(alloc: Global, from: u32, to: u32) -> Span {
+    Span {
+        from,
+        to,
+        parts: Many::new(alloc),
+    }
+}
+
+/// A node with two parts.
+fn pair(alloc: Global, from: u32, to: u32, left: Span, right: Span) -> Result<Many<Span>, AllocError> {
+    let mut parts = Many::new(alloc);
+    parts.push(left)?;
+    parts.push(right)?;
+    let mut nodes = Many::new(alloc);
+    nodes.push(Span { from, to, parts })?;
+    Ok(nodes)
+}
+
+#[test]
+fn places_are_lines_and_characters(rt: HostRuntime) -> Result<(), Fail> {
+    let alloc = rt.alloc();
+    // The name has five characters in eight bytes; `True` begins at the byte 14.
+    let text = "\n`\u{e9}\u{e9}\u{e9}`\n && True";
+    let nodes = pair(alloc, 1, 17, leaf(alloc, 1, 9), leaf(alloc, 14, 18))?;
+    let rows: [(&[u32], u32, u32); 5] = [
+        (&[], 2, 1),
+        (&[0], 2, 1),
+        (&[1], 3, 5),
+        (&[1, 0, 7], 3, 5),
+        (&[2, 1], 2, 1),
+    ];
+    for (path, line, column) in &rows {
+        let place = place_of(text.as_bytes(), &nodes, path);
+        assert_eq!(rt; place.line, *line);
+        assert_eq!(rt; place.column, *column);
+    }
+    let far = pair(alloc, 8, 99, leaf(alloc, 99, 99), leaf(alloc, 8, 9))?;
+    assert_eq!(rt; place_of(text.as_bytes(), &far, &[]).column, 5);
+    assert_eq!(rt; place_of(text.as_bytes(), &far, &[0]).column, 9);
+    assert_eq!(rt; place_of(text.as_bytes(), &Many::new(alloc), &[1]).line, 1);
+    Ok(())
+}
+
+#[test]
+fn lines_tell_rule_path_and_place(rt: HostRuntime) -> Result<(), Fail> {
+    let alloc = rt.alloc();
+    let mut path = Many::new(alloc);
+    path.push(1)?;
+    path.push(0)?;
+    let ill = Ill { path, rule: 13 };
+    let place = Place {
+        line: 2,
+        column: 15,
+    };
+    let line = format!(in alloc; "{}", Placed { ill: &ill, place })?;
+    assert_eq!(rt; line.as_str(), "type rule 13 at 1/0, line 2, column 15");
+    Ok(())
+}
