@@ -1,6 +1,6 @@
 //! Assertions, equivalences and annotations.
 
-ghost use Rattle.std.specs.Prelude.{◌≡◌, ◌<◌};
+ghost use Rattle.std.specs.Prelude.{◌≡◌, ◌<◌, IfOk};
 ghost use Rattle.dh_syntax.specs.Names.Nameless.{Core};
 ghost use Rattle.dh_syntax.specs.Typing.NamelessTyping.{core_scopes};
 ghost use Rattle.dh_syntax.specs.Typing.TypeRulesOperators as rules_of;
@@ -15,78 +15,95 @@ use crate::drafts::Draft;
 use dh_store::{CodeId, Codes};
 use dh_syntax::Builtin;
 use dh_types::{Found, equivalence as sides_of, is_constant, is_type, rules, same};
+use std::alloc::{AllocError, Global};
 
 /// `assert : t`, where t has this type.
-pub(crate) fn assertion(codes: &Codes, found: &Found, t: CodeId) -> Draft
+pub(crate) fn assertion(
+    alloc: Global,
+    codes: &Codes,
+    found: &Found,
+    t: CodeId,
+) -> Result<Draft, AllocError>
     requires coded { AreCoded codes.now }
     requires found { IsFoundThere codes.now found.now }
-    ensures rule { draft_of (code_core codes.now) result ≡ follow (facts_of (code_core codes.now) found.now) (rules_of.assert core_scopes (code_core codes.now t)) }
-    ensures there { IsDraftBelow (count codes.now) result }
+    ensures rule { IfOk result (λ d. draft_of (code_core codes.now) d ≡ follow (facts_of (code_core codes.now) found.now) (rules_of.assert core_scopes (code_core codes.now t))) }
+    ensures there { IfOk result (λ d. IsDraftBelow (count codes.now) d) }
 {
     if !is_constant(codes, Builtin::TypeConst, t) {
-        return Draft::Refuses(rules::ASSERTION_NOT_IN_TYPE);
+        return Ok(Draft::Refuses(rules::ASSERTION_NOT_IN_TYPE));
     }
     match found.first {
-        Some(claim) => asserted(codes, claim),
-        None => Draft::WantsNormal(0),
+        Some(claim) => asserted(alloc, codes, claim),
+        None => Ok(Draft::WantsNormal(0)),
     }
 }
 
 /// An assertion of this, in normal form.
-fn asserted(codes: &Codes, claim: CodeId) -> Draft
+fn asserted(alloc: Global, codes: &Codes, claim: CodeId) -> Result<Draft, AllocError>
     requires coded { AreCoded codes.now }
     requires there { claim < count codes.now }
-    ensures rule { (facts : Facts Core) → draft_of (code_core codes.now) result ≡ follow facts (parts_of.asserted core_scopes (code_core codes.now claim)) }
-    ensures there { IsDraftBelow (count codes.now) result }
+    ensures rule { IfOk result (λ d. (facts : Facts Core) → draft_of (code_core codes.now) d ≡ follow facts (parts_of.asserted core_scopes (code_core codes.now claim))) }
+    ensures there { IfOk result (λ d. IsDraftBelow (count codes.now) d) }
 {
     match sides_of(codes, claim) {
         Some((l, r)) => {
-            if same(codes, l, r) {
-                Draft::Takes(claim)
+            if same(alloc, codes, l, r)? {
+                Ok(Draft::Takes(claim))
             } else {
-                Draft::Refuses(rules::ASSERTION_FAILS)
+                Ok(Draft::Refuses(rules::ASSERTION_FAILS))
             }
         }
-        None => Draft::Refuses(rules::ASSERTION_NO_EQUIVALENCE),
+        None => Ok(Draft::Refuses(rules::ASSERTION_NO_EQUIVALENCE)),
     }
 }
 
 /// `l ≡ r`
-pub(crate) fn equivalence(codes: &Codes, found: &Found, l: CodeId, r: CodeId) -> Draft
+pub(crate) fn equivalence(
+    alloc: Global,
+    codes: &Codes,
+    found: &Found,
+    l: CodeId,
+    r: CodeId,
+) -> Result<Draft, AllocError>
     requires coded { AreCoded codes.now }
-    ensures rule { draft_of (code_core codes.now) result ≡ follow (facts_of (code_core codes.now) found.now) (rules_of.equivalence core_scopes (code_core codes.now l) (code_core codes.now r)) }
-    ensures there { IsDraftBelow (count codes.now) result }
+    ensures rule { IfOk result (λ d. draft_of (code_core codes.now) d ≡ follow (facts_of (code_core codes.now) found.now) (rules_of.equivalence core_scopes (code_core codes.now l) (code_core codes.now r))) }
+    ensures there { IfOk result (λ d. IsDraftBelow (count codes.now) d) }
 {
-    if !same(codes, l, r) {
-        return Draft::Refuses(rules::SIDES_DIFFER);
+    if !same(alloc, codes, l, r)? {
+        return Ok(Draft::Refuses(rules::SIDES_DIFFER));
     }
     match found.first_universe {
         Some(universe) => {
             if is_type(universe) {
-                Draft::TakesConstant(Builtin::TypeConst)
+                Ok(Draft::TakesConstant(Builtin::TypeConst))
             } else {
-                Draft::Refuses(rules::SIDES_NOT_IN_TYPE)
+                Ok(Draft::Refuses(rules::SIDES_NOT_IN_TYPE))
             }
         }
-        None => Draft::WantsUniverse(0),
+        None => Ok(Draft::WantsUniverse(0)),
     }
 }
 
 /// `e : t`, where e has this type.
-pub(crate) fn annotation(codes: &Codes, found: &Found, t: CodeId) -> Draft
+pub(crate) fn annotation(
+    alloc: Global,
+    codes: &Codes,
+    found: &Found,
+    t: CodeId,
+) -> Result<Draft, AllocError>
     requires coded { AreCoded codes.now }
     requires found { IsFoundThere codes.now found.now }
-    ensures rule { draft_of (code_core codes.now) result ≡ follow (facts_of (code_core codes.now) found.now) (rules_of.annotation core_scopes (code_core codes.now t)) }
-    ensures there { IsDraftBelow (count codes.now) result }
+    ensures rule { IfOk result (λ d. draft_of (code_core codes.now) d ≡ follow (facts_of (code_core codes.now) found.now) (rules_of.annotation core_scopes (code_core codes.now t))) }
+    ensures there { IfOk result (λ d. IsDraftBelow (count codes.now) d) }
 {
     match found.second {
         Some(annotation) => {
-            if same(codes, t, annotation) {
-                Draft::Takes(annotation)
+            if same(alloc, codes, t, annotation)? {
+                Ok(Draft::Takes(annotation))
             } else {
-                Draft::Refuses(rules::ANNOTATION_DIFFERS)
+                Ok(Draft::Refuses(rules::ANNOTATION_DIFFERS))
             }
         }
-        None => Draft::WantsNormal(1),
+        None => Ok(Draft::WantsNormal(1)),
     }
 }

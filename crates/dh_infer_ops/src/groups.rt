@@ -22,67 +22,80 @@ use dh_types::{Found, Step};
 use std::alloc::{AllocError, Global};
 
 /// The rule of an operator between two expressions.
-fn binary(codes: &Codes, found: &Found, name: BinOp, l: CodeId, r: CodeId) -> Option<Draft>
+fn binary(
+    alloc: Global,
+    codes: &Codes,
+    found: &Found,
+    name: BinOp,
+    l: CodeId,
+    r: CodeId,
+) -> Result<Option<Draft>, AllocError>
     requires coded { AreCoded codes.now }
     requires there { l < count codes.now }
-    ensures rule { option_map (draft_of (code_core codes.now)) result ≡ option_map (follow (facts_of (code_core codes.now) found.now)) (operator core_scopes name (code_core codes.now l) (code_core codes.now r)) }
-    ensures there { IfSome result (IsDraftBelow (count codes.now)) }
+    ensures rule { IfOk result (λ o. option_map (draft_of (code_core codes.now)) o ≡ option_map (follow (facts_of (code_core codes.now) found.now)) (operator core_scopes name (code_core codes.now l) (code_core codes.now r))) }
+    ensures there { IfOk result (λ o. IfSome o (IsDraftBelow (count codes.now))) }
 {
     match name {
         BinOp::Or | BinOp::And | BinOp::Equal | BinOp::NotEqual => {
-            Some(two_of(codes, Builtin::Bool, l, r))
+            Ok(Some(two_of(codes, Builtin::Bool, l, r)))
         }
-        BinOp::Plus | BinOp::Times => Some(two_of(codes, Builtin::Natural, l, r)),
-        BinOp::TextAppend => Some(two_of(codes, Builtin::Text, l, r)),
-        BinOp::ListAppend => Some(list_append(codes, l, r)),
-        BinOp::Equivalent => Some(equivalence(codes, found, l, r)),
-        _ => None,
+        BinOp::Plus | BinOp::Times => Ok(Some(two_of(codes, Builtin::Natural, l, r))),
+        BinOp::TextAppend => Ok(Some(two_of(codes, Builtin::Text, l, r))),
+        BinOp::ListAppend => Ok(Some(list_append(alloc, codes, l, r)?)),
+        BinOp::Equivalent => Ok(Some(equivalence(alloc, codes, found, l, r)?)),
+        _ => Ok(None),
     }
 }
 
 /// The rule of a node by the types of its parts; none for a node of another group.
-fn draft(codes: &Codes, found: &Found, op: &Op, types: &[CodeId]) -> Option<Draft>
+fn draft(
+    alloc: Global,
+    codes: &Codes,
+    found: &Found,
+    op: &Op,
+    types: &[CodeId],
+) -> Result<Option<Draft>, AllocError>
     requires coded { AreCoded codes.now }
     requires found { IsFoundThere codes.now found.now }
     requires types { AreBelow (count codes.now) types.now }
-    ensures rule { option_map (draft_of (code_core codes.now)) result ≡ option_map (follow (facts_of (code_core codes.now) found.now)) (operator_ruling core_scopes op.now (map (code_core codes.now) types.now)) }
-    ensures there { IfSome result (IsDraftBelow (count codes.now)) }
+    ensures rule { IfOk result (λ o. option_map (draft_of (code_core codes.now)) o ≡ option_map (follow (facts_of (code_core codes.now) found.now)) (operator_ruling core_scopes op.now (map (code_core codes.now) types.now))) }
+    ensures there { IfOk result (λ o. IfSome o (IsDraftBelow (count codes.now))) }
 {
     match op {
         Op::If => match types {
-            [p, l, r] => Some(if_then_else(codes, found, *p, *l, *r)),
-            [] => None,
-            [_p] => None,
-            [_p, _l] => None,
-            [_p, _l, _r, _other, ..] => None,
+            [p, l, r] => Ok(Some(if_then_else(alloc, codes, found, *p, *l, *r)?)),
+            [] => Ok(None),
+            [_p] => Ok(None),
+            [_p, _l] => Ok(None),
+            [_p, _l, _r, _other, ..] => Ok(None),
         },
         Op::Bin(operator) => match types {
-            [l, r] => binary(codes, found, *operator, *l, *r),
-            [] => None,
-            [_l] => None,
-            [_l, _r, _other, ..] => None,
+            [l, r] => binary(alloc, codes, found, *operator, *l, *r),
+            [] => Ok(None),
+            [_l] => Ok(None),
+            [_l, _r, _other, ..] => Ok(None),
         },
-        Op::EmptyList => Some(empty_list(codes, found)),
+        Op::EmptyList => Ok(Some(empty_list(codes, found))),
         Op::List => match types {
-            [t, others @ ..] => Some(list(codes, found, *t, others)),
-            [] => None,
+            [t, others @ ..] => Ok(Some(list(alloc, codes, found, *t, others)?)),
+            [] => Ok(None),
         },
         Op::Some => match types {
-            [t] => Some(some(codes, found, *t)),
-            [] => None,
-            [_t, _other, ..] => None,
+            [t] => Ok(Some(some(codes, found, *t))),
+            [] => Ok(None),
+            [_t, _other, ..] => Ok(None),
         },
-        Op::Text(_) => Some(text(codes, types)),
+        Op::Text(_) => Ok(Some(text(codes, types))),
         Op::Assert => match types {
-            [t] => Some(assertion(codes, found, *t)),
-            [] => None,
-            [_t, _other, ..] => None,
+            [t] => Ok(Some(assertion(alloc, codes, found, *t)?)),
+            [] => Ok(None),
+            [_t, _other, ..] => Ok(None),
         },
         Op::Annot => match types {
-            [t, ..] => Some(annotation(codes, found, *t)),
-            [] => None,
+            [t, ..] => Ok(Some(annotation(alloc, codes, found, *t)?)),
+            [] => Ok(None),
         },
-        _ => None,
+        _ => Ok(None),
     }
 }
 
@@ -101,7 +114,7 @@ fn answer(
     ensures rule { IfOk result (λ s. option_map (course_of (code_core codes.new)) s ≡ option_map (follow (facts_of (code_core codes.old) found.now)) (operator_ruling core_scopes op.now (map (code_core codes.old) types.now))) }
     ensures there { IfOk result (λ s. IfSome s (IsStepThere codes.new)) }
 {
-    match draft(codes, found, op, types) {
+    match draft(alloc, codes, found, op, types)? {
         Some(draft) => Ok(Some(step(alloc, codes, draft)?)),
         None => Ok(None),
     }

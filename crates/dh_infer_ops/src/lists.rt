@@ -1,6 +1,6 @@
 //! Lists, `Some` and texts.
 
-ghost use Rattle.std.specs.Prelude.{◌≡◌, ◌<◌, map};
+ghost use Rattle.std.specs.Prelude.{◌≡◌, ◌<◌, map, IfOk};
 ghost use Rattle.dh_syntax.specs.declared.operators.Builtin.TheVariants.{Text};
 ghost use Rattle.dh_syntax.specs.Names.Nameless.{Core};
 ghost use Rattle.dh_syntax.specs.Normalising.NamelessRuns.{nameless_eq};
@@ -18,18 +18,19 @@ use crate::drafts::Draft;
 use dh_store::{CodeId, Codes};
 use dh_syntax::Builtin;
 use dh_types::{Found, argument_of, is_constant, is_type, rules, same};
+use std::alloc::{AllocError, Global};
 
 /// Whether each of these types is the type t.
-fn are_same(codes: &Codes, t: CodeId, types: &[CodeId]) -> bool
+fn are_same(alloc: Global, codes: &Codes, t: CodeId, types: &[CodeId]) -> Result<bool, AllocError>
     requires coded { AreCoded codes.now }
-    ensures { result ≡ each (nameless_eq (code_core codes.now t)) (map (code_core codes.now) types.now) }
+    ensures { IfOk result (λ b. b ≡ each (nameless_eq (code_core codes.now t)) (map (code_core codes.now) types.now)) }
 {
     for u in types {
-        if !same(codes, t, *u) {
-            return false;
+        if !same(alloc, codes, t, *u)? {
+            return Ok(false);
         }
     }
-    true
+    Ok(true)
 }
 
 /// Whether each of these types is Text.
@@ -62,32 +63,44 @@ pub(crate) fn empty_list(codes: &Codes, found: &Found) -> Draft
 }
 
 /// `[ a, b, .. ]`, whose first element has the type t, and the others these types.
-pub(crate) fn list(codes: &Codes, found: &Found, t: CodeId, types: &[CodeId]) -> Draft
+pub(crate) fn list(
+    alloc: Global,
+    codes: &Codes,
+    found: &Found,
+    t: CodeId,
+    types: &[CodeId],
+) -> Result<Draft, AllocError>
     requires coded { AreCoded codes.now }
     requires there { t < count codes.now }
-    ensures rule { draft_of (code_core codes.now) result ≡ follow (facts_of (code_core codes.now) found.now) (rules_of.list core_scopes (code_core codes.now t) (map (code_core codes.now) types.now)) }
-    ensures there { IsDraftBelow (count codes.now) result }
+    ensures rule { IfOk result (λ d. draft_of (code_core codes.now) d ≡ follow (facts_of (code_core codes.now) found.now) (rules_of.list core_scopes (code_core codes.now t) (map (code_core codes.now) types.now))) }
+    ensures there { IfOk result (λ d. IsDraftBelow (count codes.now) d) }
 {
     match found.first_universe {
-        Some(universe) => elements(codes, universe, t, types),
-        None => Draft::WantsUniverse(0),
+        Some(universe) => elements(alloc, codes, universe, t, types),
+        None => Ok(Draft::WantsUniverse(0)),
     }
 }
 
 /// The elements of a list, the first one's type in this universe.
-fn elements(codes: &Codes, universe: Option<Builtin>, t: CodeId, types: &[CodeId]) -> Draft
+fn elements(
+    alloc: Global,
+    codes: &Codes,
+    universe: Option<Builtin>,
+    t: CodeId,
+    types: &[CodeId],
+) -> Result<Draft, AllocError>
     requires coded { AreCoded codes.now }
     requires there { t < count codes.now }
-    ensures rule { (facts : Facts Core) → draft_of (code_core codes.now) result ≡ follow facts (parts_of.elements core_scopes universe (code_core codes.now t) (map (code_core codes.now) types.now)) }
-    ensures there { IsDraftBelow (count codes.now) result }
+    ensures rule { IfOk result (λ d. (facts : Facts Core) → draft_of (code_core codes.now) d ≡ follow facts (parts_of.elements core_scopes universe (code_core codes.now t) (map (code_core codes.now) types.now))) }
+    ensures there { IfOk result (λ d. IsDraftBelow (count codes.now) d) }
 {
     if !is_type(universe) {
-        return Draft::Refuses(rules::ELEMENTS_NOT_IN_TYPE);
+        return Ok(Draft::Refuses(rules::ELEMENTS_NOT_IN_TYPE));
     }
-    if !are_same(codes, t, types) {
-        return Draft::Refuses(rules::ELEMENTS_DIFFER);
+    if !are_same(alloc, codes, t, types)? {
+        return Ok(Draft::Refuses(rules::ELEMENTS_DIFFER));
     }
-    Draft::FormsApplied(Builtin::List, t)
+    Ok(Draft::FormsApplied(Builtin::List, t))
 }
 
 /// `Some e`

@@ -68,35 +68,41 @@ fn labelled(
 }
 
 /// The rule of another node, by the types of its parts.
-fn unlabelled(codes: &Codes, found: &Found, op: &Op, types: &[CodeId]) -> Option<Draft>
+fn unlabelled(
+    alloc: Global,
+    codes: &Codes,
+    found: &Found,
+    op: &Op,
+    types: &[CodeId],
+) -> Result<Option<Draft>, AllocError>
     requires coded { AreCoded codes.now }
     requires found { IsFoundThere codes.now found.now }
     requires types { AreBelow (count codes.now) types.now }
     requires closed { AreTypesClosed (code_core codes.now) types.now }
     requires unnamed { is_named_op op.now ≡ false }
     requires settled { is_making op.now ≡ false }
-    ensures rule { option_map (draft_of (code_core codes.now)) result ≡ option_map (follow (facts_of (code_core codes.now) found.now)) (record_ruling core_scopes op.now (map (code_core codes.now) types.now)) }
-    ensures there { IfSome result (IsDraftBelow (count codes.now)) }
+    ensures rule { IfOk result (λ o. option_map (draft_of (code_core codes.now)) o ≡ option_map (follow (facts_of (code_core codes.now) found.now)) (record_ruling core_scopes op.now (map (code_core codes.now) types.now))) }
+    ensures there { IfOk result (λ o. IfSome o (IsDraftBelow (count codes.now))) }
 {
     match op {
-        Op::RecordType(_) => Some(greatest_of(codes, rules::FIELD_TYPE_NO_UNIVERSE, types)),
-        Op::Union(_) => Some(greatest_of(codes, rules::ALTERNATIVE_NO_UNIVERSE, types)),
+        Op::RecordType(_) => Ok(Some(greatest_of(codes, rules::FIELD_TYPE_NO_UNIVERSE, types))),
+        Op::Union(_) => Ok(Some(greatest_of(codes, rules::ALTERNATIVE_NO_UNIVERSE, types))),
         Op::ProjectType => match types {
-            [t, _u] => Some(typed_projection(codes, found, *t)),
-            [] => None,
-            [_t] => None,
-            [_t, _u, _other, ..] => None,
+            [t, _u] => Ok(Some(typed_projection(alloc, codes, found, *t)?)),
+            [] => Ok(None),
+            [_t] => Ok(None),
+            [_t, _u, _other, ..] => Ok(None),
         },
         Op::Merge(annotated) => match types {
-            [h, u, ..] => Some(merge(codes, found, *annotated, *h, *u)),
-            [] => None,
-            [_h] => None,
+            [h, u, ..] => Ok(Some(merge(alloc, codes, found, *annotated, *h, *u)?)),
+            [] => Ok(None),
+            [_h] => Ok(None),
         },
         Op::ToMap(annotated) => match types {
-            [t, ..] => Some(to_map(codes, found, *annotated, *t)),
-            [] => None,
+            [t, ..] => Ok(Some(to_map(alloc, codes, found, *annotated, *t)?)),
+            [] => Ok(None),
         },
-        _ => None,
+        _ => Ok(None),
     }
 }
 
@@ -131,7 +137,7 @@ fn draft(
     if is_named_op(op) {
         labelled(alloc, codes, found, op, types)
     } else {
-        Ok(unlabelled(codes, found, op, types))
+        unlabelled(alloc, codes, found, op, types)
     }
 }
 

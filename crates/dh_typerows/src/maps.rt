@@ -1,6 +1,6 @@
 //! `toMap`.
 
-ghost use Rattle.std.specs.Prelude.{◌≡◌, ◌<◌, [], length, true};
+ghost use Rattle.std.specs.Prelude.{◌≡◌, ◌<◌, [], length, true, IfOk};
 ghost use Rattle.std.specs.Option.{option_map};
 ghost use Rattle.dh_syntax.specs.Names.Nameless.{Core};
 ghost use Rattle.dh_syntax.specs.Normalising.NamelessRuns.{nameless_eq};
@@ -20,6 +20,7 @@ use crate::labels::is_text;
 use dh_store::{CodeId, CodeKid, Codes};
 use dh_syntax::{Builtin, Label};
 use dh_types::{Found, argument_of, is_constant, is_type, record_type, rules, same};
+use std::alloc::{AllocError, Global};
 
 /// What the values have as their type, where these are the fields of what `toMap` gives for a field.
 fn entry_value(codes: &Codes, labels: &[Label], kids: &[CodeKid]) -> Option<CodeId>
@@ -64,107 +65,120 @@ fn map_value(codes: &Codes, id: CodeId) -> Option<CodeId>
 }
 
 /// Whether each of these fields has the type v.
-fn are_values(codes: &Codes, v: CodeId, kids: &[CodeKid]) -> bool
+fn are_values(alloc: Global, codes: &Codes, v: CodeId, kids: &[CodeKid]) -> Result<bool, AllocError>
     requires coded { AreCoded codes.now }
-    ensures { result ≡ each (nameless_eq (code_core codes.now v)) (cores_of (code_core codes.now) kids.now) }
+    ensures { IfOk result (λ b. b ≡ each (nameless_eq (code_core codes.now v)) (cores_of (code_core codes.now) kids.now)) }
 {
     for kid in kids {
-        if !same(codes, v, kid.code) {
-            return false;
+        if !same(alloc, codes, v, kid.code)? {
+            return Ok(false);
         }
     }
-    true
+    Ok(true)
 }
 
 /// The type of a `toMap` whose fields have the type v, beside its annotation, in normal form.
-fn beside(codes: &Codes, v: CodeId, t: CodeId) -> Draft
+fn beside(alloc: Global, codes: &Codes, v: CodeId, t: CodeId) -> Result<Draft, AllocError>
     requires coded { AreCoded codes.now }
     requires there { v < count codes.now }
-    ensures rule { (facts : Facts Core) → draft_of (code_core codes.now) result ≡ follow facts (parts_of.beside core_scopes (code_core codes.now v) (code_core codes.now t)) }
-    ensures there { IsDraftBelow (count codes.now) result }
+    ensures rule { IfOk result (λ d. (facts : Facts Core) → draft_of (code_core codes.now) d ≡ follow facts (parts_of.beside core_scopes (code_core codes.now v) (code_core codes.now t))) }
+    ensures there { IfOk result (λ d. IsDraftBelow (count codes.now) d) }
 {
     match map_value(codes, t) {
         Some(w) => {
-            if same(codes, v, w) {
-                Draft::FormsMap(v)
+            if same(alloc, codes, v, w)? {
+                Ok(Draft::FormsMap(v))
             } else {
-                Draft::Refuses(rules::TO_MAP_ANNOTATION)
+                Ok(Draft::Refuses(rules::TO_MAP_ANNOTATION))
             }
         }
-        None => Draft::Refuses(rules::TO_MAP_ANNOTATION),
+        None => Ok(Draft::Refuses(rules::TO_MAP_ANNOTATION)),
     }
 }
 
 /// The type of a `toMap` with an annotation, whose fields have the type v.
-fn annotated_map(codes: &Codes, found: &Found, v: CodeId) -> Draft
+fn annotated_map(
+    alloc: Global,
+    codes: &Codes,
+    found: &Found,
+    v: CodeId,
+) -> Result<Draft, AllocError>
     requires coded { AreCoded codes.now }
     requires found { IsFoundThere codes.now found.now }
     requires there { v < count codes.now }
-    ensures rule { draft_of (code_core codes.now) result ≡ follow (facts_of (code_core codes.now) found.now) (rules_of.mapped core_scopes true (code_core codes.now v)) }
-    ensures there { IsDraftBelow (count codes.now) result }
+    ensures rule { IfOk result (λ d. draft_of (code_core codes.now) d ≡ follow (facts_of (code_core codes.now) found.now) (rules_of.mapped core_scopes true (code_core codes.now v))) }
+    ensures there { IfOk result (λ d. IsDraftBelow (count codes.now) d) }
 {
     match found.second {
-        Some(t) => beside(codes, v, t),
-        None => Draft::WantsNormal(1),
+        Some(t) => beside(alloc, codes, v, t),
+        None => Ok(Draft::WantsNormal(1)),
     }
 }
 
 /// The type of a `toMap` with or without annotation, whose fields have the type v.
-fn mapped(codes: &Codes, found: &Found, annotated: bool, v: CodeId) -> Draft
+fn mapped(
+    alloc: Global,
+    codes: &Codes,
+    found: &Found,
+    annotated: bool,
+    v: CodeId,
+) -> Result<Draft, AllocError>
     requires coded { AreCoded codes.now }
     requires found { IsFoundThere codes.now found.now }
     requires there { v < count codes.now }
-    ensures rule { draft_of (code_core codes.now) result ≡ follow (facts_of (code_core codes.now) found.now) (rules_of.mapped core_scopes annotated (code_core codes.now v)) }
-    ensures there { IsDraftBelow (count codes.now) result }
+    ensures rule { IfOk result (λ d. draft_of (code_core codes.now) d ≡ follow (facts_of (code_core codes.now) found.now) (rules_of.mapped core_scopes annotated (code_core codes.now v))) }
+    ensures there { IfOk result (λ d. IsDraftBelow (count codes.now) d) }
 {
     if annotated {
-        annotated_map(codes, found, v)
+        annotated_map(alloc, codes, found, v)
     } else {
-        Draft::FormsMap(v)
+        Ok(Draft::FormsMap(v))
     }
 }
 
 /// The type of a `toMap` of a record whose fields have the type v, which is in this universe.
 fn in_universe(
+    alloc: Global,
     codes: &Codes,
     found: &Found,
     annotated: bool,
     universe: Option<Builtin>,
     v: CodeId,
-) -> Draft
+) -> Result<Draft, AllocError>
     requires coded { AreCoded codes.now }
     requires found { IsFoundThere codes.now found.now }
     requires there { v < count codes.now }
-    ensures rule { draft_of (code_core codes.now) result ≡ follow (facts_of (code_core codes.now) found.now) (parts_of.in_universe core_scopes annotated (code_core codes.now v) universe) }
-    ensures there { IsDraftBelow (count codes.now) result }
+    ensures rule { IfOk result (λ d. draft_of (code_core codes.now) d ≡ follow (facts_of (code_core codes.now) found.now) (parts_of.in_universe core_scopes annotated (code_core codes.now v) universe)) }
+    ensures there { IfOk result (λ d. IsDraftBelow (count codes.now) d) }
 {
     if is_type(universe) {
-        mapped(codes, found, annotated, v)
+        mapped(alloc, codes, found, annotated, v)
     } else {
-        Draft::Refuses(rules::TO_MAP_FIELDS_DIFFER)
+        Ok(Draft::Refuses(rules::TO_MAP_FIELDS_DIFFER))
     }
 }
 
 /// A `toMap` of a record whose first field has the type v, and the others these.
 fn some_entries(
+    alloc: Global,
     codes: &Codes,
     found: &Found,
     annotated: bool,
     v: CodeId,
     others: &[CodeKid],
-) -> Draft
+) -> Result<Draft, AllocError>
     requires coded { AreCoded codes.now }
     requires found { IsFoundThere codes.now found.now }
     requires there { v < count codes.now }
-    ensures rule { draft_of (code_core codes.now) result ≡ follow (facts_of (code_core codes.now) found.now) (parts_of.some_entries core_scopes annotated (code_core codes.now v) (cores_of (code_core codes.now) others.now)) }
-    ensures there { IsDraftBelow (count codes.now) result }
+    ensures rule { IfOk result (λ d. draft_of (code_core codes.now) d ≡ follow (facts_of (code_core codes.now) found.now) (parts_of.some_entries core_scopes annotated (code_core codes.now v) (cores_of (code_core codes.now) others.now))) }
+    ensures there { IfOk result (λ d. IsDraftBelow (count codes.now) d) }
 {
-    if !are_values(codes, v, others) {
-        return Draft::Refuses(rules::TO_MAP_FIELDS_DIFFER);
+    if !are_values(alloc, codes, v, others)? {
+        return Ok(Draft::Refuses(rules::TO_MAP_FIELDS_DIFFER));
     }
     match found.first_universe {
-        Some(universe) => in_universe(codes, found, annotated, universe, v),
-        None => Draft::WantsUniverse(0),
+        Some(universe) => in_universe(alloc, codes, found, annotated, universe, v),
+        None => Ok(Draft::WantsUniverse(0)),
     }
 }
 
@@ -189,35 +203,42 @@ fn no_entries(codes: &Codes, found: &Found, annotated: bool) -> Draft
 
 /// A `toMap` of a record with these fields.
 fn entries(
+    alloc: Global,
     codes: &Codes,
     found: &Found,
     annotated: bool,
     labels: &[Label],
     kids: &[CodeKid],
-) -> Draft
+) -> Result<Draft, AllocError>
     requires coded { AreCoded codes.now }
     requires found { IsFoundThere codes.now found.now }
     requires paired { length labels.now ≡ length kids.now }
     requires there { AreKidsBelow (count codes.now) kids.now }
-    ensures rule { draft_of (code_core codes.now) result ≡ follow (facts_of (code_core codes.now) found.now) (rules_of.entries core_scopes annotated (fields_of (code_core codes.now) labels.now kids.now)) }
-    ensures there { IsDraftBelow (count codes.now) result }
+    ensures rule { IfOk result (λ d. draft_of (code_core codes.now) d ≡ follow (facts_of (code_core codes.now) found.now) (rules_of.entries core_scopes annotated (fields_of (code_core codes.now) labels.now kids.now))) }
+    ensures there { IfOk result (λ d. IsDraftBelow (count codes.now) d) }
 {
     match kids {
-        [first, others @ ..] => some_entries(codes, found, annotated, first.code, others),
-        [] => no_entries(codes, found, annotated),
+        [first, others @ ..] => some_entries(alloc, codes, found, annotated, first.code, others),
+        [] => Ok(no_entries(codes, found, annotated)),
     }
 }
 
 /// `toMap e`, with or without annotation, where e has this type.
-pub(crate) fn to_map(codes: &Codes, found: &Found, annotated: bool, t: CodeId) -> Draft
+pub(crate) fn to_map(
+    alloc: Global,
+    codes: &Codes,
+    found: &Found,
+    annotated: bool,
+    t: CodeId,
+) -> Result<Draft, AllocError>
     requires coded { AreCoded codes.now }
     requires found { IsFoundThere codes.now found.now }
     requires there { t < count codes.now }
-    ensures rule { draft_of (code_core codes.now) result ≡ follow (facts_of (code_core codes.now) found.now) (rules_of.to_map core_scopes annotated (code_core codes.now t)) }
-    ensures there { IsDraftBelow (count codes.now) result }
+    ensures rule { IfOk result (λ d. draft_of (code_core codes.now) d ≡ follow (facts_of (code_core codes.now) found.now) (rules_of.to_map core_scopes annotated (code_core codes.now t))) }
+    ensures there { IfOk result (λ d. IsDraftBelow (count codes.now) d) }
 {
     match record_type(codes, t) {
-        Some((labels, kids)) => entries(codes, found, annotated, labels, kids),
-        None => Draft::Refuses(rules::TO_MAP_NO_RECORD),
+        Some((labels, kids)) => entries(alloc, codes, found, annotated, labels, kids),
+        None => Ok(Draft::Refuses(rules::TO_MAP_NO_RECORD)),
     }
 }

@@ -81,72 +81,84 @@ pub(crate) fn projection(
 }
 
 /// Whether a type is there and is this one.
-fn is_there(codes: &Codes, t: Option<CodeId>, u: CodeId) -> bool
+fn is_there(alloc: Global, codes: &Codes, t: Option<CodeId>, u: CodeId) -> Result<bool, AllocError>
     requires coded { AreCoded codes.now }
-    ensures { result ≡ rules_of.is_there core_scopes (option_map (code_core codes.now) t) (code_core codes.now u) }
+    ensures { IfOk result (λ b. b ≡ rules_of.is_there core_scopes (option_map (code_core codes.now) t) (code_core codes.now u)) }
 {
     match t {
-        Some(t) => same(codes, t, u),
-        None => false,
+        Some(t) => same(alloc, codes, t, u),
+        None => Ok(false),
     }
 }
 
 /// Whether the second fields are among the first, with the same types.
 fn all_there(
+    alloc: Global,
     codes: &Codes,
     labels: &[Label],
     kids: &[CodeKid],
     others: &[Label],
     other_kids: &[CodeKid],
-) -> bool
+) -> Result<bool, AllocError>
     requires coded { AreCoded codes.now }
     requires ascends { IsTrue (ascending labels.now) }
     requires paired { length labels.now ≡ length kids.now }
     requires others_paired { length others.now ≡ length other_kids.now }
-    ensures { result ≡ rules_of.all_there core_scopes (fields_of (code_core codes.now) labels.now kids.now) (fields_of (code_core codes.now) others.now other_kids.now) }
+    ensures { IfOk result (λ b. b ≡ rules_of.all_there core_scopes (fields_of (code_core codes.now) labels.now kids.now) (fields_of (code_core codes.now) others.now other_kids.now)) }
 {
     for i in 0..others.len() {
         let found = field_at(labels, kids, &others[i]);
-        if !is_there(codes, found, other_kids[i].code) {
-            return false;
+        if !is_there(alloc, codes, found, other_kids[i].code)? {
+            return Ok(false);
         }
     }
-    true
+    Ok(true)
 }
 
 /// `e.(r)`, where e has the type t, and r is this, in normal form.
-fn projected(codes: &Codes, labels: &[Label], kids: &[CodeKid], r: CodeId) -> Draft
+fn projected(
+    alloc: Global,
+    codes: &Codes,
+    labels: &[Label],
+    kids: &[CodeKid],
+    r: CodeId,
+) -> Result<Draft, AllocError>
     requires coded { AreCoded codes.now }
     requires there { r < count codes.now }
     requires ascends { IsTrue (ascending labels.now) }
     requires paired { length labels.now ≡ length kids.now }
-    ensures rule { (facts : Facts Core) → draft_of (code_core codes.now) result ≡ follow facts (parts_of.projected core_scopes (fields_of (code_core codes.now) labels.now kids.now) (code_core codes.now r)) }
-    ensures there { IsDraftBelow (count codes.now) result }
+    ensures rule { IfOk result (λ d. (facts : Facts Core) → draft_of (code_core codes.now) d ≡ follow facts (parts_of.projected core_scopes (fields_of (code_core codes.now) labels.now kids.now) (code_core codes.now r))) }
+    ensures there { IfOk result (λ d. IsDraftBelow (count codes.now) d) }
 {
     match record_type(codes, r) {
         Some((others, other_kids)) => {
-            if all_there(codes, labels, kids, others, other_kids) {
-                Draft::Takes(r)
+            if all_there(alloc, codes, labels, kids, others, other_kids)? {
+                Ok(Draft::Takes(r))
             } else {
-                Draft::Refuses(rules::TYPED_PROJECTION_DIFFERS)
+                Ok(Draft::Refuses(rules::TYPED_PROJECTION_DIFFERS))
             }
         }
-        None => Draft::Refuses(rules::TYPED_PROJECTION_NO_RECORD_TYPE),
+        None => Ok(Draft::Refuses(rules::TYPED_PROJECTION_NO_RECORD_TYPE)),
     }
 }
 
 /// `e.(r)`, where e has this type.
-pub(crate) fn typed_projection(codes: &Codes, found: &Found, t: CodeId) -> Draft
+pub(crate) fn typed_projection(
+    alloc: Global,
+    codes: &Codes,
+    found: &Found,
+    t: CodeId,
+) -> Result<Draft, AllocError>
     requires coded { AreCoded codes.now }
     requires found { IsFoundThere codes.now found.now }
-    ensures rule { draft_of (code_core codes.now) result ≡ follow (facts_of (code_core codes.now) found.now) (rules_of.typed_projection core_scopes (code_core codes.now t)) }
-    ensures there { IsDraftBelow (count codes.now) result }
+    ensures rule { IfOk result (λ d. draft_of (code_core codes.now) d ≡ follow (facts_of (code_core codes.now) found.now) (rules_of.typed_projection core_scopes (code_core codes.now t))) }
+    ensures there { IfOk result (λ d. IsDraftBelow (count codes.now) d) }
 {
     match record_type(codes, t) {
         Some((labels, kids)) => match found.second {
-            Some(r) => projected(codes, labels, kids, r),
-            None => Draft::WantsNormal(1),
+            Some(r) => projected(alloc, codes, labels, kids, r),
+            None => Ok(Draft::WantsNormal(1)),
         },
-        None => Draft::Refuses(rules::TYPED_PROJECTION_NO_RECORD),
+        None => Ok(Draft::Refuses(rules::TYPED_PROJECTION_NO_RECORD)),
     }
 }

@@ -63,10 +63,10 @@ pub changed-later : (old new : Codes) (change : Change) (k c : ℕ) → Grows ol
 changed-later old new change k c g b h =
     ap (λ f. changed f k (code_core new c)) (leaf-later old new change g b) ∙ ap (changed (leaf_by (code_core old) change) k) (g.cores c h)
 
-same-number : (m n : ℕ) → nat_eq m n ≡ true → m ≡ n
+pub same-number : (m n : ℕ) → nat_eq m n ≡ true → m ≡ n
 same-number m n h = eq-true m n (eq-native m n ∙ h)
 
-both-true : (a b : Bool) → (a && b) ≡ true → (a ≡ true) × (b ≡ true)
+pub both-true : (a b : Bool) → (a && b) ≡ true → (a ≡ true) × (b ≡ true)
 both-true true true h = (refl, refl)
 both-true true false h = absurd (false≢true h)
 both-true false b h = absurd (false≢true h)

@@ -1,5 +1,5 @@
 -- Codes without loose variables, as more are made.
-use Rattle.std.specs.Prelude.{◌≡◌, ◌<◌, ℕ, refl}
+use Rattle.std.specs.Prelude.{◌<◌, ℕ, refl}
 use Rattle.std.proofs.Common.{sym, subst as along}
 use Rattle.dh_syntax.specs.declared.operators.Builtin.{Builtin}
 use Rattle.dh_syntax.specs.Expressions.Forms.{builtin}

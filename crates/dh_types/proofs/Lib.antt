@@ -7,6 +7,7 @@ pub mod ClosedCores
 pub mod ClosedParts
 pub mod ClosedRulings
 pub mod CodeNodes
+pub mod Comparisons
 pub mod FreeVariables
 pub mod Grown
 pub mod PartRows

@@ -1,57 +1,131 @@
 //! Whether a type mentions the variable of a binder above it.
+//!
+//! A code that stands below as many binders is looked at once, and what is still to be looked at is a stack on the heap.
 
-ghost use Rattle.std.specs.Prelude.{◌≡◌, ◌<◌, ◌≤◌, ◌+◌, ◌^◌, IfSome};
+ghost use Rattle.std.specs.Prelude.{◌≡◌, ℕ, true, IfOk, IfSome, OnOk};
 ghost use Rattle.std.specs.Option.{option_map};
-ghost use Rattle.dh_syntax.specs.Typing.NamelessTyping.{above, down, mentions};
-ghost use Rattle.dh_store.specs.Cells.{code_core, AreCoded};
+ghost use Rattle.dh_syntax.specs.Names.Nameless.{Core};
+ghost use Rattle.dh_syntax.specs.Typing.NamelessTyping.{down, mentions, mentions_row};
+ghost use Rattle.dh_store.specs.Cells.{code_core, code_row, AreCoded};
 ghost use Rattle.dh_types.specs.Closed.{IsClosedBelow};
+ghost use Rattle.dh_types.specs.Inside.Comparing.{TellsMentioned};
 
+use crate::changes::{Place, inner};
+use crate::memos::Memo;
 use crate::nodes::{Seen, form_of};
 use dh_store::{CodeId, CodeKid, Codes};
+use std::alloc::{AllocError, Global};
 
-/// So many binders above, in a part that may be under one more.
-fn above(level: u64, kid: &CodeKid) -> u64
-    requires { level < 2 ^ 33 }
-    ensures value { result ≡ above kid.now.binder level }
-    ensures most { result ≤ level + 1 }
+/// Puts a part above its node, which is put back first if it was not yet; now it waits.
+fn put_off(
+    todo: &mut Vec<Place>,
+    waits: bool,
+    place: Place,
+    id: CodeId,
+    level: u32,
+) -> Result<bool, AllocError>
+    ensures { IfOk result (λ w. w ≡ true) }
 {
-    match &kid.binder {
-        Some(_) => level + 1,
-        None => level,
+    if !waits {
+        todo.push(place)?;
+    }
+    todo.push(Place { id, level })?;
+    Ok(true)
+}
+
+/// Whether one of the parts of a node mentions the variable, if that is known; if not, the node is put back, and above it the parts
+/// of which it is not known.
+fn mentioned_in(
+    memo: &Memo<bool>,
+    todo: &mut Vec<Place>,
+    place: Place,
+    kids: &[CodeKid],
+) -> Result<Option<bool>, AllocError>
+    ensures { IfOk result (λ o. (f : ℕ → Core) → TellsMentioned f memo.now → IfSome o (λ v. v ≡ mentions_row place.level (code_row f kids.now))) }
+{
+    let mut waits = false;
+    for kid in kids {
+        let Some(level) = inner(place.level, kid) else {
+            return Err(AllocError);
+        };
+        match memo.get(kid.code, level) {
+            Some(true) => return Ok(Some(true)),
+            Some(false) => {}
+            None => waits = put_off(todo, waits, place, kid.code, level)?,
+        }
+    }
+    if waits { Ok(None) } else { Ok(Some(false)) }
+}
+
+/// Whether a code mentions the variable, if that is known of its parts; if not, it is put back, and above it what is not known.
+fn look(
+    codes: &Codes,
+    memo: &Memo<bool>,
+    todo: &mut Vec<Place>,
+    place: Place,
+) -> Result<Option<bool>, AllocError>
+    requires coded { AreCoded codes.now }
+    requires tells { TellsMentioned (code_core codes.now) memo.now }
+    ensures { IfOk result (λ o. IfSome o (λ v. v ≡ mentions place.level (code_core codes.now place.id))) }
+{
+    match form_of(codes, place.id) {
+        Seen::Bound(index) => Ok(Some(index == place.level)),
+        Seen::Free(_, _) => Ok(Some(false)),
+        Seen::Node(_, kids) => mentioned_in(memo, todo, place, kids),
     }
 }
 
-/// Whether a code mentions the variable of the binder so many above.
-fn mentions_at(codes: &Codes, level: u64, id: CodeId) -> bool
+/// Goes on with a code: what is found of it is kept, or it waits for its parts.
+fn go_on(
+    codes: &Codes,
+    memo: &mut Memo<bool>,
+    todo: &mut Vec<Place>,
+    place: Place,
+) -> Result<(), AllocError>
     requires coded { AreCoded codes.now }
-    requires level { level + id < 2 ^ 33 }
-    ensures { result ≡ mentions level (code_core codes.now id) }
+    requires tells { TellsMentioned (code_core codes.now) memo.old }
+    ensures tells { OnOk result (TellsMentioned (code_core codes.now) memo.new) }
 {
-    match form_of(codes, id) {
-        Seen::Bound(index) => u64::from(index) == level,
-        Seen::Free(_, _) => false,
-        Seen::Node(_, kids) => {
-            for kid in kids {
-                if mentions_at(codes, above(level, kid), kid.code) {
-                    return true;
-                }
-            }
-            false
+    if memo.get(place.id, place.level).is_some() {
+        return Ok(());
+    }
+    match look(codes, memo, todo, place)? {
+        Some(mentions) => memo.put(place.id, place.level, mentions),
+        None => Ok(()),
+    }
+}
+
+/// Whether a code that stands below a binder mentions its variable.
+fn mentions(alloc: Global, codes: &Codes, id: CodeId) -> Result<bool, AllocError>
+    requires coded { AreCoded codes.now }
+    ensures { IfOk result (λ v. v ≡ mentions 0 (code_core codes.now id)) }
+{
+    let mut memo = Memo::new(alloc);
+    let mut todo = Vec::new(alloc);
+    todo.push(Place { id, level: 0 })?;
+    'places: for _ in 0..u64::MAX {
+        if let Some(mentions) = memo.get(id, 0) {
+            return Ok(mentions);
+        }
+        match todo.pop() {
+            Some(place) => go_on(codes, &mut memo, &mut todo, place)?,
+            None => return Err(AllocError),
         }
     }
+    Err(AllocError)
 }
 
 /// A code that stands below a binder, seen from outside, where it does not mention the variable of the binder: itself, since it
 /// has no variable of another binder above.
-pub fn seen_outside(codes: &Codes, id: CodeId) -> Option<CodeId>
+pub fn seen_outside(alloc: Global, codes: &Codes, id: CodeId) -> Result<Option<CodeId>, AllocError>
     requires coded { AreCoded codes.now }
     requires closed { IsClosedBelow (code_core codes.now id) }
-    ensures view { option_map (code_core codes.now) result ≡ down (code_core codes.now id) }
-    ensures same { IfSome result (λ c. c ≡ id) }
+    ensures view { IfOk result (λ o. option_map (code_core codes.now) o ≡ down (code_core codes.now id)) }
+    ensures same { IfOk result (λ o. IfSome o (λ c. c ≡ id)) }
 {
-    if mentions_at(codes, 0, id) {
-        None
+    if mentions(alloc, codes, id)? {
+        Ok(None)
     } else {
-        Some(id)
+        Ok(Some(id))
     }
 }

@@ -44,7 +44,7 @@ enum Plan {
 }
 
 /// How many binders stand above a part, below as many as stand above its node.
-fn inner(level: u32, kid: &CodeKid) -> Option<u32>
+pub(crate) fn inner(level: u32, kid: &CodeKid) -> Option<u32>
     ensures { IfSome result (λ k. k ≡ above kid.now.binder level) }
 {
     match &kid.binder {
@@ -255,9 +255,9 @@ fn settle(
 
 /// A code and how many binders stand above it.
 #[derive(Clone, Copy)]
-struct Place {
-    id: CodeId,
-    level: u32,
+pub(crate) struct Place {
+    pub(crate) id: CodeId,
+    pub(crate) level: u32,
 }
 
 /// Puts a node back, and above it its parts that were not changed yet; whether there are some.
