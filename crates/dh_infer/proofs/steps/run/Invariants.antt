@@ -1,0 +1,5 @@
+use Rattle.dh_infer.specs.Inside.Machine.{Advances}
+use Rattle.dh_infer.proofs.steps.run.Given as goal
+
+abbrev pub invariant-steps : goal.invariant-steps
+invariant-steps l = Advances l.fn.typer l.typer l.fn.start l.state l.fn.purse.left l.purse.left

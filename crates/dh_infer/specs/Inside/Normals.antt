@@ -1,0 +1,16 @@
+-- What may be answered in place of a normal form.
+use Rattle.std.specs.Prelude.{◌≡◌, ℕ}
+use Rattle.dh_syntax.specs.Expressions.Nesting.{nesting}
+use Rattle.dh_syntax.specs.Names.Nameless.{Core}
+use Rattle.dh_syntax.specs.Normalising.NamelessRuns.{cores}
+use Rattle.dh_syntax.specs.Normalising.Normal.{IsLicensed}
+use Rattle.dh_norm.specs.References.{Apart, opened}
+use Rattle.dh_infer.specs.declared.halts.Halt.{Halt}
+use Rattle.dh_infer.specs.declared.halts.Halt.TheVariants as halts
+
+-- each reference of it is that of an expression of the program
+abbrev pub Within : Apart → Core → Type 0
+Within s e = (d : Core) × (e ≡ opened s d)
+
+abbrev pub IsLicensedHalt : ℕ → Core → Halt → Type 0
+IsLicensedHalt units e (halts.Fault f) = IsLicensed cores nesting units e f
