@@ -6,6 +6,7 @@
 run: build
 	printf '1 + 2' | crates/dhall/out/dhall encode | od -An -tx1
 	printf '1 + 2' | crates/dhall/out/dhall encode | crates/dhall/out/dhall decode
+	printf 'let f = \\(x : Natural) -> x + x in f' | crates/dhall/out/dhall type
 	printf 'let f = \\(x : Natural) -> x + x in f (f 1)' | crates/dhall/out/dhall normalize
 
 # The built program stands at crates/dhall/out/dhall.

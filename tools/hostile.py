@@ -11,6 +11,7 @@ Usage: tools/hostile.py [PROGRAM] [--seed N] [--rounds N]. PROGRAM is crates/dha
 
 import argparse
 import collections
+import hashlib
 import os
 import random
 import re
@@ -26,7 +27,7 @@ import programs
 MOST_BYTES = 1_048_576
 SECONDS = 10
 
-OK, TEXT, LIMIT, USAGE, READ, WRITE, MEMORY = 0, 1, 4, 5, 6, 7, 9
+OK, TEXT, ILL, LIMIT, USAGE, READ, WRITE, MEMORY = 0, 1, 2, 4, 5, 6, 7, 9
 READ_LINE = b"read failed\n"
 WRITE_LINE = b"write failed\n"
 MEMORY_LINE = b"out of memory\n"
@@ -222,6 +223,7 @@ def random_texts(findings, source, rounds):
 
 LEFT_OUT = refused(b"left out of this profile at 0")
 LIMIT_FAULT = re.compile(rb"(?:number or literal too wide|budget of 16777216 spent|too deep)\n")
+ILL_FAULT = re.compile(rb"type rule (\d+) at (?:root|\d+(?:/\d+)*), line (\d+), column (\d+)\n")
 
 
 def has_imports(e):
@@ -231,33 +233,57 @@ def has_imports(e):
     return False
 
 
-def normalize(findings, group, name, text, *wanted):
-    ran = run(findings, group, name, ["normalize"], input=text)
-    expect(findings, name, ran, *wanted)
+def works(findings, group, verb, name, text, *wanted):
+    """A run of a command that infers a type."""
+    ran = run(findings, group, name, [verb], input=text)
+    expect(findings, f"{verb} {name}", ran, *wanted)
     return ran
 
 
-def random_normals(findings, source, rounds):
-    """Closed programs, whose values are known; and random expressions, whose normal forms are their own normal forms."""
+def check_typed(findings, name, text, ran):
+    """Whether a run told a type or a limit, or a place that has no type and that is there."""
+    if ran is None or ran[0] == OK and ran[1] and not ran[2]:
+        return
+    status, out, err = ran
+    ill = ILL_FAULT.fullmatch(err)
+    if out or not (status == LIMIT and LIMIT_FAULT.fullmatch(err) or status == ILL and ill):
+        findings.report(name, f"status {status}, {out[:80]!r}, {err[:80]!r}, for {text[:80]!r}")
+    elif ill:
+        rule, line, column = map(int, ill.groups())
+        lines = text.decode().split("\n")
+        if not (1 <= rule <= 55 and 1 <= line <= len(lines) and 1 <= column <= len(lines[line - 1])):
+            findings.report(name, f"{err[:80]!r} for {text[:80]!r}")
+
+
+def random_programs(findings, source, rounds):
+    """Closed programs, whose types, values and digests are known; and random expressions, most of which have no type."""
     maker = programs.Maker(source)
     for n in range(rounds):
         e, t, value = maker.program(source.randrange(1, 7))
         text = expressions.spelled(source, e).encode()
         if len(text) <= MOST_BYTES:
-            line = expressions.printed(programs.literal(t, value)).encode() + b"\n"
-            normalize(findings, "programs", f"program {n} {text[:60]!r}", text, written(line))
+            name, form = f"program {n} {text[:60]!r}", programs.literal(t, value)
+            digest = hashlib.sha256(expressions.encoded(form)).hexdigest()
+            works(findings, "programs", "type", name, text, written(expressions.printed(programs.type_of(t)).encode() + b"\n"))
+            works(findings, "programs", "normalize", name, text, written(expressions.printed(form).encode() + b"\n"))
+            works(findings, "programs", "hash", name, text, written(f"sha256:{digest}\n".encode()))
     maker = expressions.Maker(source)
     for n in range(rounds):
         e = maker.expression(source.randrange(1, 6))
         name, text = f"expression {n}", expressions.printed(e).encode()
         if has_imports(e):
-            normalize(findings, "left out", name, text, LEFT_OUT)
+            works(findings, "left out", source.choice(["type", "normalize", "hash"]), name, text, LEFT_OUT)
+            continue
+        ran = run(findings, "types", name, ["type"], input=text)
+        check_typed(findings, name, text, ran)
+        if ran is None or ran[0] != OK:
+            for verb in ["normalize", "hash"]:
+                works(findings, "types", verb, name, text, ran)
             continue
         ran = run(findings, "normal forms", name, ["normalize"], input=text)
-        if ran is None or (ran[0] == LIMIT and not ran[1] and LIMIT_FAULT.fullmatch(ran[2])):
-            continue
-        expect(findings, name, ran, (OK, ran[1], b""))
-        normalize(findings, "normal forms, again", name, ran[1], written(ran[1]), refused(b"nested deeper than 500"))
+        check_typed(findings, name, text, ran)
+        if ran is not None and ran[0] == OK:
+            works(findings, "normal forms, again", "normalize", name, ran[1], written(ran[1]), refused(b"nested deeper than 500"))
 
 
 OPENINGS = ["(", "[", "{ a = ", "< A : ", "\"${", "''${", "if ", "if x then ", "if x then y else ", "let x = ", "let x : ",
@@ -584,7 +610,7 @@ def main():
     worked_texts(findings)
     short_texts(findings)
     random_texts(findings, random.Random(options.seed), options.rounds)
-    random_normals(findings, random.Random(options.seed), options.rounds)
+    random_programs(findings, random.Random(options.seed), options.rounds)
     worked_bytes(findings)
     random_bytes(findings, random.Random(options.seed), options.rounds)
     for check in (deep_texts, long_texts, large_texts, large_bytes, devices, broken_pipes, slow_pipes, command_lines, little_memory):

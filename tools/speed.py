@@ -136,6 +136,35 @@ def lets(n):
     return text + f"in x{n - 1}"
 
 
+def parameters(n):
+    text = "".join(f"\\(x{i} : Natural) -> " for i in range(n)) + "x0"
+    return f"({text})" + " 1" * n
+
+
+def merged(n):
+    union = "< " + " | ".join(f"a{i} : Natural" for i in range(n)) + " >"
+    handlers = "{ " + ", ".join(f"a{i} = \\(n : Natural) -> n + {i}" for i in range(n)) + " }"
+    return f"merge {handlers} ({union}.a{n - 1} 1)"
+
+
+def library(n):
+    """A record of functions, of which a few are used."""
+    entry = (
+        "f{i} = \\(a : Type) -> \\(f : a -> a) -> \\(p : {{ x : a, y : List a }}) -> "
+        "{{ x = f p.x, y = List/reverse a p.y, z = if True then [ f (f p.x) ] else p.y }}"
+    )
+    entries = ",\n  ".join(entry.format(i=i) for i in range(n))
+    return "let lib = { " + entries + " }\nin  lib.f0 Natural (\\(n : Natural) -> n + 1) { x = 1, y = [ 2 ] }"
+
+
+def doubled_types(n):
+    """A type whose parts are shared, and whose size without sharing is exponential."""
+    text = "let t0 = { a : Natural }\n"
+    for i in range(1, n):
+        text += f"let t{i} = {{ a : t{i - 1}, b : t{i - 1} }}\n"
+    return text + f"in \\(x : t{n - 1}) -> (x : t{n - 1}).a"
+
+
 TEXTS = [
     ("sum in brackets", brackets, [10240, 20480, 40960]),
     ("record", record, [5000, 10000, 20000, 40000]),
@@ -160,6 +189,18 @@ NORMAL = [
     ("map", mapped, [2500, 5000, 10000]),
     ("filter", filtered, [2500, 5000, 10000]),
     ("lets", lets, [100, 200, 400]),
+]
+
+
+TYPED = [
+    ("record of 5 n fields, n uses", uses, [500, 1000, 2000]),
+    ("lets", lets, [100, 200, 400]),
+    ("function of n parameters, applied", parameters, [75, 150, 300]),
+    ("merge of n alternatives", merged, [500, 1000, 2000]),
+    ("list of numbers", numbers, [25000, 50000, 100000]),
+    ("library of n functions", library, [500, 1000, 2000]),
+    ("record", record, [2500, 5000, 10000]),
+    ("types that share their parts", doubled_types, [5, 10, 15]),
 ]
 
 
@@ -193,6 +234,10 @@ def main():
     if given.command in (None, "normalize"):
         for name, make, sizes in NORMAL:
             show(given.program, "normalize", name, sizes, lambda n: make(n).encode(), given.tries)
+    for command in ["type", "hash"]:
+        if given.command in (None, command):
+            for name, make, sizes in TYPED:
+                show(given.program, command, name, sizes, lambda n: make(n).encode(), given.tries)
 
 
 if __name__ == "__main__":

@@ -16,7 +16,13 @@ fn leaf(alloc: Global, from: u32, to: u32) -> Span {
 }
 
 /// A node with two parts.
-fn pair(alloc: Global, from: u32, to: u32, left: Span, right: Span) -> Result<Many<Span>, AllocError> {
+fn pair(
+    alloc: Global,
+    from: u32,
+    to: u32,
+    left: Span,
+    right: Span,
+) -> Result<Many<Span>, AllocError> {
     let mut parts = Many::new(alloc);
     parts.push(left)?;
     parts.push(right)?;

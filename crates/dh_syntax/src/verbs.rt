@@ -10,8 +10,12 @@ pub enum Verb {
     Encode,
     /// The printed text of the expression that the input is the binary form of.
     Decode,
+    /// The printed type of the expression that the input spells.
+    Type,
     /// The printed normal form of the expression that the input spells.
     Normalize,
+    /// The digest of the normal form of the expression that the input spells.
+    Hash,
 }
 
 impl Verb {
@@ -20,7 +24,7 @@ impl Verb {
         ensures { result ≡ reads self }
     {
         match self {
-            Verb::Encode | Verb::Decode | Verb::Normalize => true,
+            Verb::Encode | Verb::Decode | Verb::Type | Verb::Normalize | Verb::Hash => true,
         }
     }
 }

@@ -16,17 +16,23 @@ use Rattle.dh_syntax.specs.Expressions.Numbers.{bytes_eq}
 use Rattle.dh_syntax.specs.Command.Words.{Word, verb_of, is_count, workers_of, operands, options}
 use Rattle.dh_syntax.specs.declared.verbs.Verb.TheVariants as verb
 
-named-none : (w : List ℕ) (a b d : Bool) → bytes_eq (codes "encode") w ≡ a → bytes_eq (codes "decode") w ≡ b → bytes_eq (codes "normalize") w ≡ d
-    → (w ≡ codes "encode" → ⊥) → (w ≡ codes "decode" → ⊥) → (w ≡ codes "normalize" → ⊥)
-    → (if a then Some verb.Encode else if b then Some verb.Decode else if d then Some verb.Normalize else None) ≡ None
-named-none w true b d e f g h k l = absurd (h (sym (bytes_eq-true (codes "encode") w e)))
-named-none w false true d e f g h k l = absurd (k (sym (bytes_eq-true (codes "decode") w f)))
-named-none w false false true e f g h k l = absurd (l (sym (bytes_eq-true (codes "normalize") w g)))
-named-none w false false false e f g h k l = refl
+named-none : (w : List ℕ) (a b c d e : Bool) → bytes_eq (codes "encode") w ≡ a → bytes_eq (codes "decode") w ≡ b → bytes_eq (codes "type") w ≡ c
+    → bytes_eq (codes "normalize") w ≡ d → bytes_eq (codes "hash") w ≡ e
+    → (w ≡ codes "encode" → ⊥) → (w ≡ codes "decode" → ⊥) → (w ≡ codes "type" → ⊥) → (w ≡ codes "normalize" → ⊥) → (w ≡ codes "hash" → ⊥)
+    → (if a then Some verb.Encode else if b then Some verb.Decode else if c then Some verb.Type else if d then Some verb.Normalize else if e then Some verb.Hash else None) ≡ None
+named-none w true b c d e h1 h2 h3 h4 h5 k1 k2 k3 k4 k5 = absurd (k1 (sym (bytes_eq-true (codes "encode") w h1)))
+named-none w false true c d e h1 h2 h3 h4 h5 k1 k2 k3 k4 k5 = absurd (k2 (sym (bytes_eq-true (codes "decode") w h2)))
+named-none w false false true d e h1 h2 h3 h4 h5 k1 k2 k3 k4 k5 = absurd (k3 (sym (bytes_eq-true (codes "type") w h3)))
+named-none w false false false true e h1 h2 h3 h4 h5 k1 k2 k3 k4 k5 = absurd (k4 (sym (bytes_eq-true (codes "normalize") w h4)))
+named-none w false false false false true h1 h2 h3 h4 h5 k1 k2 k3 k4 k5 = absurd (k5 (sym (bytes_eq-true (codes "hash") w h5)))
+named-none w false false false false false h1 h2 h3 h4 h5 k1 k2 k3 k4 k5 = refl
 
 -- a word that names no command
-pub verb_of-none : (w : List ℕ) → (w ≡ codes "encode" → ⊥) → (w ≡ codes "decode" → ⊥) → (w ≡ codes "normalize" → ⊥) → None ≡ verb_of w
-verb_of-none w h k l = sym (named-none w (bytes_eq (codes "encode") w) (bytes_eq (codes "decode") w) (bytes_eq (codes "normalize") w) refl refl refl h k l)
+pub verb_of-none : (w : List ℕ) → (w ≡ codes "encode" → ⊥) → (w ≡ codes "decode" → ⊥) → (w ≡ codes "type" → ⊥) → (w ≡ codes "normalize" → ⊥) → (w ≡ codes "hash" → ⊥)
+    → None ≡ verb_of w
+verb_of-none w k1 k2 k3 k4 k5 =
+    sym (named-none w (bytes_eq (codes "encode") w) (bytes_eq (codes "decode") w) (bytes_eq (codes "type") w) (bytes_eq (codes "normalize") w) (bytes_eq (codes "hash") w)
+    refl refl refl refl refl k1 k2 k3 k4 k5)
 
 -- ---- numbers of workers
 

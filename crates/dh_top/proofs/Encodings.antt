@@ -1,31 +1,38 @@
 -- Replies as answers.
-use Rattle.std.proofs.Common.{◌≡◌, ◌⊎◌, inl, inr, ℕ, ◌≤◌, ◌<◌, List, [], length, take, Option, Some, None, Result, Ok, Err, IfOk, IfSome, refl, sym, ◌∙◌, subst, arith, take_all, length-take-le, Bool, true, false, true≢false, nat_lt}
-use Rattle.std.specs.Prelude.{MatchBool}
+use Rattle.std.proofs.Common.{◌≡◌, ◌⊎◌, inl, inr, ℕ, ◌≤◌, ◌<◌, List, [], length, take, Option, Some, None, Result, Ok, Err, IfOk, IfSome, refl, sym, ap, ◌∙◌, subst, arith, take_all, length-take-le, Bool, true, false, true≢false, nat_lt}
+use Rattle.std.specs.Prelude.{MatchBool, IsTrue}
 use Rattle.std.proofs.lemmas.Bool.{ltb-true, ltb-false}
 use Rattle.std.specs.Io.KnownBytes.{Consumes, Keeps}
 use Rattle.std.specs.declared.alloc.AllocError.{AllocError}
 use Rattle.dh_ports.specs.Counts.{Rose}
 use Rattle.dh_syntax.specs.declared.commands.Command.{Command}
 use Rattle.dh_syntax.specs.declared.faults.DecodeFault.{DecodeFault}
+use Rattle.dh_syntax.specs.declared.faults.Ill.{Ill}
 use Rattle.dh_syntax.specs.declared.faults.NormFault.{NormFault}
 use Rattle.dh_syntax.specs.declared.faults.NormFault.TheVariants as limit
 use Rattle.dh_syntax.specs.declared.faults.ParseFault.{ParseFault}
 use Rattle.dh_syntax.specs.declared.faults.ParseFault.TheVariants as parse
+use Rattle.dh_syntax.specs.declared.locations.Digest.{Digest}
 use Rattle.dh_syntax.specs.declared.statuses.Status.TheVariants as status
 use Rattle.dh_syntax.specs.declared.verbs.Verb.{Verb}
 use Rattle.dh_syntax.specs.declared.verbs.Verb.TheVariants as verb
 use Rattle.dh_syntax.specs.Bytes.BinaryFaults.{DecodesTo}
-use Rattle.dh_syntax.specs.Command.Answer.{Response, Does, NormalAnswer, encodes, decodes, decodes_none, normalizes, normalizes_none, leaves_out, normal, limited, usage, does, encoded, decoded, answer, fault, line, misspelt, misused, unread}
+use Rattle.dh_syntax.specs.Command.Answer.{Response, Does, TypedAnswer, Prints, IsTyped, IsLimit, encodes, decodes, decodes_none, spells, spells_none, leaves_out, prints, refuses, limited, its_type, its_form, its_digest, digest_line, usage, does, encoded, decoded, answer, fault, line, misspelt, misused, unread}
 use Rattle.dh_syntax.specs.Command.FaultLines.{norm_fault_line}
 use Rattle.dh_syntax.specs.Command.LeftOut.{has_imports}
-use Rattle.dh_syntax.specs.Command.Words.{Word, command_of, reads}
+use Rattle.dh_syntax.specs.Command.PlacedFaults.{placed_line, ill_line_in}
+use Rattle.dh_syntax.specs.Command.Words.{Word, command_of, reads, types, takes_form}
 use Rattle.dh_syntax.specs.Expressions.Nesting.{nesting}
 use Rattle.dh_syntax.specs.Expressions.Tree.{Term}
+use Rattle.dh_syntax.specs.Imports.LastStep.{digest_of}
 use Rattle.dh_syntax.specs.Limits.{most_bytes, most_nesting, whole_purse}
 use Rattle.dh_syntax.specs.Normalising.Named.{names}
 use Rattle.dh_syntax.specs.Normalising.Normal.{HasNormalForm, IsLicensed}
+use Rattle.dh_syntax.specs.Text.Places.{start_of, line_at, column_at}
 use Rattle.dh_syntax.specs.Text.Printed.{text_of}
+use Rattle.dh_syntax.specs.Text.Spans.{Spans, SpellsAt}
 use Rattle.dh_syntax.specs.Text.Spelling.{ParsesTo}
+use Rattle.dh_syntax.specs.Typing.NamedTyping.{IsIll, IsTypeLimit}
 use Rattle.dh_top.specs.declared.replies.Reply.{Reply}
 use Rattle.dh_top.specs.Replies.{written, Performs}
 use Rattle.dh_top.specs.Runs.{Input, Makes, answers, cannot_read, IsRead, IsTaken, IsLeft, IsQuiet, reading}
@@ -47,32 +54,75 @@ pub decodes_too_large : (r : Result Reply AllocError) (bytes : List ℕ) → mos
 decodes_too_large (Ok x) bytes l w = decodes_none refl l w
 decodes_too_large (Err e) bytes l w = tt
 
--- ---- the reply to an expression that is normalised
+-- ---- the reply to an expression that is typed
 
-pub normalises_any : (r : Result Reply AllocError) (text : List ℕ) (e : Term) → ParsesTo text (Ok e) → false ≡ has_imports e → IfOk r (λ x. NormalAnswer e (written x))
-    → IfOk r (λ x. Does verb.Normalize text (written x))
-normalises_any (Ok x) text e p n w = normalizes e refl p (sym n) w
-normalises_any (Err e) text o p n w = tt
+pub spells_any : (r : Result Reply AllocError) (v : Verb) (text : List ℕ) (e : Term) → IsTrue (types v) → ParsesTo text (Ok e) → false ≡ has_imports e
+    → IfOk r (λ x. TypedAnswer v text e (written x)) → IfOk r (λ x. Does v text (written x))
+spells_any (Ok x) v text e t p n w = spells e t p (sym n) w
+spells_any (Err x) v text e t p n w = tt
 
-pub leaves_any : (r : Result Reply AllocError) (text : List ℕ) (e : Term) → ParsesTo text (Ok e) → true ≡ has_imports e → IfOk r (λ x. written x ≡ misspelt (parse.Out 0))
-    → IfOk r (λ x. Does verb.Normalize text (written x))
-leaves_any (Ok x) text e p n w = leaves_out e refl p (sym n) w
-leaves_any (Err e) text o p n w = tt
+pub leaves_any : (r : Result Reply AllocError) (v : Verb) (text : List ℕ) (e : Term) → IsTrue (types v) → ParsesTo text (Ok e) → true ≡ has_imports e
+    → IfOk r (λ x. written x ≡ misspelt (parse.Out 0)) → IfOk r (λ x. Does v text (written x))
+leaves_any (Ok x) v text e t p n w = leaves_out e t p (sym n) w
+leaves_any (Err x) v text e t p n w = tt
 
-pub normalises_none : (r : Result Reply AllocError) (text : List ℕ) (f : ParseFault) → ParsesTo text (Err f) → IfOk r (λ x. written x ≡ misspelt f)
-    → IfOk r (λ x. Does verb.Normalize text (written x))
-normalises_none (Ok x) text f p w = normalizes_none f refl p w
-normalises_none (Err e) text f p w = tt
+pub spells_none_any : (r : Result Reply AllocError) (v : Verb) (text : List ℕ) (f : ParseFault) → IsTrue (types v) → ParsesTo text (Err f)
+    → IfOk r (λ x. written x ≡ misspelt f) → IfOk r (λ x. Does v text (written x))
+spells_none_any (Ok x) v text f t p w = spells_none f t p w
+spells_none_any (Err x) v text f t p w = tt
 
-pub normal_any : (r : Result Reply AllocError) (e f : Term) → HasNormalForm names e f → nesting f ≤ most_nesting → IfOk r (λ x. written x ≡ answer (line (text_of f)))
-    → IfOk r (λ x. NormalAnswer e (written x))
-normal_any (Ok x) e f h n w = normal f h n w
-normal_any (Err e) d f h n w = tt
+pub prints_any : (r : Result Reply AllocError) (v : Verb) (text : List ℕ) (e t : Term) (bytes : List ℕ) → IsTyped e t → Prints e t v bytes
+    → IfOk r (λ x. written x ≡ answer (line bytes)) → IfOk r (λ x. TypedAnswer v text e (written x))
+prints_any (Ok x) v text e t bytes h p w = prints t bytes h p w
+prints_any (Err x) v text e t bytes h p w = tt
 
-pub limited_any : (r : Result Reply AllocError) (e : Term) (l : NormFault) → (l ≡ limit.Memory → ⊥) → IsLicensed names nesting whole_purse e l
-    → IfOk r (λ x. written x ≡ fault (norm_fault_line l) status.Limit) → IfOk r (λ x. NormalAnswer e (written x))
-limited_any (Ok x) e l n h w = limited l n h w
-limited_any (Err e) d l n h w = tt
+pub limited_any : (r : Result Reply AllocError) (v : Verb) (text : List ℕ) (e : Term) (l : NormFault) → (l ≡ limit.Memory → ⊥) → IsLimit v e l
+    → IfOk r (λ x. written x ≡ fault (norm_fault_line l) status.Limit) → IfOk r (λ x. TypedAnswer v text e (written x))
+limited_any (Ok x) v text e l n h w = limited l n h w
+limited_any (Err x) v text e l n h w = tt
+
+-- the printed type
+pub type_printed : (r : Result Reply AllocError) (v : Verb) (text : List ℕ) (e t : Term) → v ≡ verb.Type → IsTyped e t → nesting t ≤ most_nesting
+    → IfOk r (λ x. written x ≡ answer (line (text_of t))) → IfOk r (λ x. TypedAnswer v text e (written x))
+type_printed (Ok x) v text e t same h n w = subst (λ v. TypedAnswer v text e (written x)) (sym same) (prints t (text_of t) h (its_type n) w)
+type_printed (Err x) v text e t same h n w = tt
+
+-- the printed normal form, its digest, or a limit, of whatever text
+pub form_printed : (r : Result Reply AllocError) (e f : Term) → (t : Term) × IsTyped e t → HasNormalForm names e f → nesting f ≤ most_nesting
+    → IfOk r (λ x. written x ≡ answer (line (text_of f))) → IfOk r (λ x. (text : List ℕ) → TypedAnswer verb.Normalize text e (written x))
+form_printed (Ok x) e f typed h n w = λ text. prints typed.0 (text_of f) typed.1 (its_form f h n) w
+form_printed (Err x) e f typed h n w = tt
+
+pub digest_printed : (r : Result Reply AllocError) (e f : Term) (d : Digest) → (t : Term) × IsTyped e t → HasNormalForm names e f → nesting f ≤ most_nesting → d ≡ digest_of f
+    → IfOk r (λ x. written x ≡ answer (line (digest_line d))) → IfOk r (λ x. (text : List ℕ) → TypedAnswer verb.Hash text e (written x))
+digest_printed (Ok x) e f d typed h n same w =
+    λ text. prints typed.0 (digest_line (digest_of f)) typed.1 (its_digest f h n) (w ∙ ap (λ d. answer (line (digest_line d))) same)
+digest_printed (Err x) e f d typed h n same w = tt
+
+pub form_limited : (r : Result Reply AllocError) (v : Verb) (e : Term) (l : NormFault) → IsTrue (takes_form v) → (t : Term) × IsTyped e t → IsLicensed names nesting whole_purse e l
+    → IfOk r (λ x. (l ≡ limit.Memory → ⊥) × (written x ≡ fault (norm_fault_line l) status.Limit)) → IfOk r (λ x. (text : List ℕ) → TypedAnswer v text e (written x))
+form_limited (Ok x) v e l takes typed h w = λ text. limited l w.0 (inr (takes, typed, h)) w.1
+form_limited (Err x) v e l takes typed h w = tt
+
+pub for_text : (r : Result Reply AllocError) (v w : Verb) (text : List ℕ) (e : Term) → v ≡ w → IfOk r (λ x. (text : List ℕ) → TypedAnswer w text e (written x))
+    → IfOk r (λ x. TypedAnswer v text e (written x))
+for_text (Ok x) v w text e same h = subst (λ v. TypedAnswer v text e (written x)) (sym same) (h text)
+for_text (Err x) v w text e same h = tt
+
+pub type_limited : (r : Result Reply AllocError) (v : Verb) (text : List ℕ) (e : Term) (l : NormFault) → (l ≡ limit.Memory → ⊥) → IsTypeLimit [] whole_purse e l
+    → IfOk r (λ x. written x ≡ fault (norm_fault_line l) status.Limit) → IfOk r (λ x. TypedAnswer v text e (written x))
+type_limited (Ok x) v text e l n h w = limited l n (inl h) w
+type_limited (Err x) v text e l n h w = tt
+
+-- a place that has no type, in the nodes of the text
+pub refused_at : (v : Verb) (text : List ℕ) (e d : Term) (nodes : Spans) (f : Ill) (path : List ℕ) (l c : ℕ) (bytes : List ℕ) (w : Response) → d ≡ e → SpellsAt text d nodes
+    → IsIll [] e f.path f.rule → path ≡ f.path → l ≡ line_at text (start_of nodes path) → c ≡ column_at text (start_of nodes path) → bytes ≡ line (placed_line f l c)
+    → w ≡ record { out = []; err = bytes; status = status.Ill } → TypedAnswer v text e w
+refused_at v text e d nodes f path l c bytes w same spelled ill p q r b u =
+    let lines : l ≡ line_at text (start_of nodes f.path) = q ∙ ap (λ p. line_at text (start_of nodes p)) p in
+    let columns : c ≡ column_at text (start_of nodes f.path) = r ∙ ap (λ p. column_at text (start_of nodes p)) p in
+    let all : bytes ≡ line (ill_line_in text nodes f) = b ∙ ap (λ l. line (placed_line f l c)) lines ∙ ap (λ c. line (placed_line f (line_at text (start_of nodes f.path)) c)) columns in
+    refuses nodes f (subst (λ d. SpellsAt text d nodes) same spelled) ill (u ∙ ap (λ b. record { out = []; err = b; status = status.Ill }) all)
 
 -- ---- an input of which only a first part was read, since it is too large
 
@@ -94,8 +144,8 @@ longer : (v : Verb) (n : ℕ) (text : List ℕ) (w : Response) → n ≡ 1048577
 longer v n text w m h (encodes o e p q) = encodes o e (longer_parse n text o m h p) q
 longer v n text w m h (decodes o e s p q) = absurd (let l = read_length n text m h in omega (arith, s, l))
 longer v n text w m h (decodes_none e l q) = decodes_none e (omega (arith, m, h)) q
-longer v n text w m h (normalizes e o p k q) = normalizes e o (longer_parse n text (Ok e) m h p) k q
-longer v n text w m h (normalizes_none f o p q) = normalizes_none f o (longer_parse n text (Err f) m h p) q
+longer v n text w m h (spells e o p k q) = absurd (let s = p.is_text.0 in let l = read_length n text m h in omega (arith, s, l))
+longer v n text w m h (spells_none f o p q) = spells_none f o (longer_parse n text (Err f) m h p) q
 longer v n text w m h (leaves_out e o p k q) = leaves_out e o (longer_parse n text (Ok e) m h p) k q
 
 by_test : (m n : ℕ) (b : Bool) → nat_lt n m ≡ b → (m ≤ n) ⊎ (n ≤ m)
@@ -118,7 +168,9 @@ whole v n text bytes w m e p = elim (cases_le (length text) n) [
 pub all_read : (v : Verb) → reads v ≡ true
 all_read verb.Encode = refl
 all_read verb.Decode = refl
+all_read verb.Type = refl
 all_read verb.Normalize = refl
+all_read verb.Hash = refl
 
 read_by : (b : Bool) (text : List ℕ) (input : Input) → b ≡ true → IsTaken text input → MatchBool b (IsTaken text input) (IsLeft input)
 read_by true text input e t = t

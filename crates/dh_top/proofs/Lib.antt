@@ -1,5 +1,6 @@
 pub mod Commands
 pub mod Encodings
+pub mod Forms
 pub mod ImportWalks
 pub mod Normals
 pub mod Reading

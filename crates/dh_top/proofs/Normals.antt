@@ -1,14 +1,20 @@
--- An expression that has its normal form within the purse is answered with it.
-use Rattle.std.proofs.Common.{◌≡◌, ℕ, ◌+◌, Bool, false, true, true≢false, refl, ap, subst, arith}
+-- An expression that has a type, and its normal form within the purse, is answered with it.
+use Rattle.std.proofs.Common.{◌≡◌, inl, inr, ℕ, ◌+◌, List, [], Bool, false, true, true≢false, refl, ap, sym, subst, arith}
+use Rattle.std.specs.Prelude.{IsTrue}
+use Rattle.dh_syntax.specs.declared.faults.NormFault.{NormFault}
 use Rattle.dh_syntax.specs.declared.faults.NormFault.TheVariants as limit
 use Rattle.dh_syntax.specs.declared.statuses.Status.TheVariants as status
-use Rattle.dh_syntax.specs.Command.Answer.{Response, NormalAnswer, normal, limited}
+use Rattle.dh_syntax.specs.declared.verbs.Verb.{Verb}
+use Rattle.dh_syntax.specs.declared.verbs.Verb.TheVariants as verb
+use Rattle.dh_syntax.specs.Command.Answer.{Response, TypedAnswer, IsTypedInTime, IsNormalInTime, prints, refuses, limited}
+use Rattle.dh_syntax.specs.Command.Words.{takes_form}
 use Rattle.dh_syntax.specs.Expressions.Nesting.{nesting}
 use Rattle.dh_syntax.specs.Expressions.Tree.{Term}
 use Rattle.dh_syntax.specs.Limits.{whole_purse}
 use Rattle.dh_syntax.specs.Normalising.Heads.{Answer, Found, Wide, Over, Whole, run}
 use Rattle.dh_syntax.specs.Normalising.Named.{names}
-use Rattle.dh_syntax.specs.Normalising.Normal.{endless, Normalises, IsDeepLicensed, IsWideLicensed}
+use Rattle.dh_syntax.specs.Normalising.Normal.{endless, Normalises, IsDeepLicensed, IsLicensed, IsWideLicensed}
+use Rattle.dh_typing_laws.proofs.Typing.OneTyping.{type_or_refusal}
 use Rattle.dh_laws.specs.Runs.{IsWithMore}
 use Rattle.dh_laws.proofs.Normalising.RunLimits.{more_units, one_answer}
 
@@ -29,10 +35,26 @@ wide_not_found e f units left p (u, l, q) =
     let wide : Normalises names (units + u) e (Wide (l + units)) = subst (λ n. Normalises names n e (Wide (l + units))) sum (q.0, with_more e u units (Wide l) q) in
     true≢false (ap is_found (one_answer names (units + u) e (Found f (left + u)) (Wide (l + units)) found wide refl refl))
 
--- so it is, whatever the answer
-pub found_ends_ok : (e f : Term) (left : ℕ) (w : Response) → Normalises names whole_purse e (Found f left) → (IsDeepLicensed names nesting e → ⊥) → NormalAnswer e w → w.status ≡ status.Ok
-found_ends_ok e f left w p deep (normal g h n u) = ap (λ w. w.status) u
-found_ends_ok e f left w p deep (limited limit.Spent n h u) = absurd (over_not_found e f whole_purse left p h)
-found_ends_ok e f left w p deep (limited limit.Wide n h u) = absurd (wide_not_found e f whole_purse left p h)
-found_ends_ok e f left w p deep (limited limit.Deep n h u) = absurd (deep h)
-found_ends_ok e f left w p deep (limited limit.Memory n h u) = absurd (n refl)
+-- no limit of its normal form may be named
+pub normal_limits : (e f : Term) (left : ℕ) (l : NormFault) → Normalises names whole_purse e (Found f left) → (IsDeepLicensed names nesting e → ⊥) → (l ≡ limit.Memory → ⊥)
+    → IsLicensed names nesting whole_purse e l → ⊥
+normal_limits e f left limit.Spent p deep n h = over_not_found e f whole_purse left p h
+normal_limits e f left limit.Wide p deep n h = wide_not_found e f whole_purse left p h
+normal_limits e f left limit.Deep p deep n h = deep h
+normal_limits e f left limit.Memory p deep n h = n refl
+
+-- what is answered where it has a type for which no limit may be named, and where its normal form is in time
+typed_ends_ok : (v : Verb) (text : List ℕ) (e : Term) (w : Response) → IsTypedInTime e
+    → ((l : NormFault) → (l ≡ limit.Memory → ⊥) → IsTrue (takes_form v) → IsLicensed names nesting whole_purse e l → ⊥)
+    → TypedAnswer v text e w → w.status ≡ status.Ok
+typed_ends_ok v text e w time forms (prints t bytes h p u) = ap (λ w. w.status) u
+typed_ends_ok v text e w time forms (refuses nodes f s h u) = absurd (type_or_refusal [] e time.0.0 time.0.1.0 f.path f.rule time.0.1.1 h)
+typed_ends_ok v text e w time forms (limited l n (inl h) u) = absurd (time.1 l n h)
+typed_ends_ok v text e w time forms (limited l n (inr (takes, t, h)) u) = absurd (forms l n takes h)
+
+pub type_ends_ok : (text : List ℕ) (e : Term) (w : Response) → IsTypedInTime e → TypedAnswer verb.Type text e w → w.status ≡ status.Ok
+type_ends_ok text e w time a = typed_ends_ok verb.Type text e w time (λ l n takes h. true≢false (sym takes)) a
+
+pub form_ends_ok : (v : Verb) (text : List ℕ) (e : Term) (w : Response) → IsTypedInTime e → IsNormalInTime e → TypedAnswer v text e w → w.status ≡ status.Ok
+form_ends_ok v text e w time form a =
+    typed_ends_ok v text e w time (λ l n takes h. normal_limits e form.0.0 form.0.1 l form.0.2 form.1 n h) a

@@ -12,13 +12,13 @@ use Rattle.dh_syntax.specs.declared.statuses.Status.{Status}
 use Rattle.dh_syntax.specs.declared.statuses.Status.TheVariants as status
 use Rattle.dh_syntax.specs.declared.verbs.Verb.{Verb}
 use Rattle.dh_syntax.specs.declared.verbs.Verb.TheVariants as verb
-use Rattle.dh_syntax.specs.Command.Answer.{Response, Does, NormalAnswer, encodes, decodes, decodes_none, normalizes, normalizes_none, leaves_out, usage, does, encoded, decoded, Succeeds}
+use Rattle.dh_syntax.specs.Command.Answer.{Response, Does, IsTypedInTime, IsNormalInTime, encodes, decodes, decodes_none, spells, spells_none, leaves_out, usage, does, encoded, decoded, Succeeds}
 use Rattle.dh_syntax.specs.Command.LeftOut.{has_imports}
 use Rattle.dh_syntax.specs.Command.Words.{Word, command_of, reads}
 use Rattle.dh_syntax.specs.Expressions.Tree.{Term}
 use Rattle.dh_syntax.specs.Text.Spelling.{ParsesTo}
 use Rattle.dh_top.proofs.Encodings.{all_read}
-use Rattle.dh_top.proofs.Normals.{found_ends_ok}
+use Rattle.dh_top.proofs.Normals.{type_ends_ok, form_ends_ok}
 use Rattle.dh_top.specs.declared.replies.Reply.{Reply}
 use Rattle.dh_top.specs.Replies.{written}
 use Rattle.dh_top.specs.Runs.{Input, Output, Makes, answers, cannot_read, lacks_memory, Delivers, whole, out_failed, err_failed, Runs, Works, IsRead, IsTaken, IsLeft, reading}
@@ -42,7 +42,9 @@ ok_is c d r e f = ap (command_or c) (sym e ∙ f)
 abbrev number : Verb → ℕ
 number verb.Encode = 0
 number verb.Decode = 1
-number verb.Normalize = 2
+number verb.Type = 2
+number verb.Normalize = 3
+number verb.Hash = 4
 
 apart : (u v : Verb) → u ≡ v → (number u ≡ number v → ⊥) → ⊥
 apart u v e n = n (ap number e)
@@ -63,38 +65,52 @@ abbrev term_of : Result Term ParseFault → Term → Term
 term_of (Ok e) d = e
 term_of (Err f) d = d
 
-same_term : (text : List ℕ) (e f : Term) → ParsesTo text (Ok e) → ParsesTo text (Ok f) → e ≡ f
+pub same_term : (text : List ℕ) (e f : Term) → ParsesTo text (Ok e) → ParsesTo text (Ok f) → e ≡ f
 same_term text e f p q = ap (λ r. term_of r e) (parses_once text (Ok e) (Ok f) p q)
 
 abbrev is_spelled : Result Term ParseFault → Bool
 is_spelled (Ok e) = true
 is_spelled (Err f) = false
 
-not_both : (text : List ℕ) (e : Term) (f : ParseFault) → ParsesTo text (Ok e) → ParsesTo text (Err f) → ⊥
+pub not_both : (text : List ℕ) (e : Term) (f : ParseFault) → ParsesTo text (Ok e) → ParsesTo text (Err f) → ⊥
 not_both text e f p q = true≢false (ap is_spelled (parses_once text (Ok e) (Err f) p q))
+
+not_left : (text : List ℕ) (d e : Term) → ParsesTo text (Ok d) → ParsesTo text (Ok e) → has_imports d ≡ true → has_imports e ≡ false → ⊥
+not_left text d e q p n none = true≢false (sym n ∙ ap has_imports (same_term text d e q p) ∙ none)
 
 done : (v : Verb) (text : List ℕ) (w : Response) → Succeeds v text → Does v text w → w.status ≡ status.Ok
 done verb.Encode text w s (encodes o h p q) = ap (λ w. w.status) q ∙ ok_when_parsed o s.0 (parses_once text o (Ok s.0) p s.1)
 done verb.Decode text w s (decodes o h l p q) = ap (λ w. w.status) q ∙ ok_when_read o s.0 (decodes-unique text o (Ok s.0) p s.2)
 done verb.Decode text w s (decodes_none h l q) = absurd (let k = s.1 in omega (arith, k, l))
-done verb.Normalize text w (e, f, left, p, none, runs, flat) (normalizes d h q n a) =
-    let same = same_term text d e q p in
-    found_ends_ok e f left w runs flat (subst (λ d. NormalAnswer d w) same a)
-done verb.Normalize text w (e, f, left, p, none, runs, flat) (normalizes_none g h q u) = absurd (not_both text e g p q)
-done verb.Normalize text w (e, f, left, p, none, runs, flat) (leaves_out d h q n u) =
-    absurd (true≢false (sym n ∙ ap has_imports (same_term text d e q p) ∙ none))
+done verb.Type text w (e, p, none, time) (spells d h q n a) = type_ends_ok text d w (subst IsTypedInTime (same_term text e d p q) time) a
+done verb.Normalize text w (e, p, none, time, form) (spells d h q n a) =
+    form_ends_ok verb.Normalize text d w (subst IsTypedInTime (same_term text e d p q) time) (subst IsNormalInTime (same_term text e d p q) form) a
+done verb.Hash text w (e, p, none, time, form) (spells d h q n a) =
+    form_ends_ok verb.Hash text d w (subst IsTypedInTime (same_term text e d p q) time) (subst IsNormalInTime (same_term text e d p q) form) a
+done verb.Type text w (e, p, none, time) (spells_none g h q u) = absurd (not_both text e g p q)
+done verb.Normalize text w (e, p, none, time, form) (spells_none g h q u) = absurd (not_both text e g p q)
+done verb.Hash text w (e, p, none, time, form) (spells_none g h q u) = absurd (not_both text e g p q)
+done verb.Type text w (e, p, none, time) (leaves_out d h q n u) = absurd (not_left text d e q p n none)
+done verb.Normalize text w (e, p, none, time, form) (leaves_out d h q n u) = absurd (not_left text d e q p n none)
+done verb.Hash text w (e, p, none, time, form) (leaves_out d h q n u) = absurd (not_left text d e q p n none)
 done verb.Encode text w s (decodes o h l p q) = absurd (apart _ _ h (λ n. omega (arith, n)))
 done verb.Encode text w s (decodes_none h l q) = absurd (apart _ _ h (λ n. omega (arith, n)))
-done verb.Encode text w s (normalizes d h q n a) = absurd (apart _ _ h (λ n. omega (arith, n)))
-done verb.Encode text w s (normalizes_none g h q u) = absurd (apart _ _ h (λ n. omega (arith, n)))
-done verb.Encode text w s (leaves_out d h q n u) = absurd (apart _ _ h (λ n. omega (arith, n)))
+done verb.Encode text w s (spells d h q n a) = absurd (true≢false (sym h))
+done verb.Encode text w s (spells_none g h q u) = absurd (true≢false (sym h))
+done verb.Encode text w s (leaves_out d h q n u) = absurd (true≢false (sym h))
 done verb.Decode text w s (encodes o h p q) = absurd (apart _ _ h (λ n. omega (arith, n)))
-done verb.Decode text w s (normalizes d h q n a) = absurd (apart _ _ h (λ n. omega (arith, n)))
-done verb.Decode text w s (normalizes_none g h q u) = absurd (apart _ _ h (λ n. omega (arith, n)))
-done verb.Decode text w s (leaves_out d h q n u) = absurd (apart _ _ h (λ n. omega (arith, n)))
+done verb.Decode text w s (spells d h q n a) = absurd (true≢false (sym h))
+done verb.Decode text w s (spells_none g h q u) = absurd (true≢false (sym h))
+done verb.Decode text w s (leaves_out d h q n u) = absurd (true≢false (sym h))
+done verb.Type text w s (encodes o h p q) = absurd (apart _ _ h (λ n. omega (arith, n)))
+done verb.Type text w s (decodes o h l p q) = absurd (apart _ _ h (λ n. omega (arith, n)))
+done verb.Type text w s (decodes_none h l q) = absurd (apart _ _ h (λ n. omega (arith, n)))
 done verb.Normalize text w s (encodes o h p q) = absurd (apart _ _ h (λ n. omega (arith, n)))
 done verb.Normalize text w s (decodes o h l p q) = absurd (apart _ _ h (λ n. omega (arith, n)))
 done verb.Normalize text w s (decodes_none h l q) = absurd (apart _ _ h (λ n. omega (arith, n)))
+done verb.Hash text w s (encodes o h p q) = absurd (apart _ _ h (λ n. omega (arith, n)))
+done verb.Hash text w s (decodes o h l p q) = absurd (apart _ _ h (λ n. omega (arith, n)))
+done verb.Hash text w s (decodes_none h l q) = absurd (apart _ _ h (λ n. omega (arith, n)))
 
 same_text : (words : List Word) (c : Command) (text left : List ℕ) (input : Input) → input.before ≡ Some left → command_of words ≡ Ok c
     → IsRead (command_of words) text input → text ≡ left

@@ -13,9 +13,9 @@ mod delivery;
 mod encoding;
 mod imports;
 mod inputs;
-mod normalizing;
 mod replies;
 mod runs;
+mod typing;
 mod words;
 
 pub use delivery::deliver;
@@ -28,3 +28,5 @@ mod grammar_tests;
 mod normal_tests;
 #[cfg(test)]
 mod tests;
+#[cfg(test)]
+mod type_tests;

@@ -14,6 +14,24 @@ fn prints(rt: &(impl Abort + Eprint), alloc: Global, table: &[(&str, &str)]) -> 
     Ok(())
 }
 
+/// The same of each text and line below the same binders.
+fn prints_below(
+    rt: &(impl Abort + Eprint),
+    alloc: Global,
+    binders: (&str, &str),
+    table: &[(&str, &str)],
+) -> Result<(), Fail> {
+    for (text, line) in table {
+        let mut input = String::from_str(alloc, binders.0)?;
+        input.push_str(text)?;
+        let mut output = String::from_str(alloc, binders.1)?;
+        output.push_str(line)?;
+        let ran = run_in_memory(alloc, &["normalize"], input.as_bytes(), NONE)?;
+        expect(rt, &ran, output.as_bytes(), "", Status::Ok);
+    }
+    Ok(())
+}
+
 fn ends(
     rt: &(impl Abort + Eprint),
     alloc: Global,
@@ -39,7 +57,10 @@ fn normalises_functions_and_bindings(rt: HostRuntime) -> Result<(), Fail> {
             ),
             ("let x = 1 let y : Natural = x + 1 in y + x", "3\n"),
             ("(1 : Natural) + 1", "2\n"),
-            ("f (1 + 1)", "f 2\n"),
+            (
+                "\\(f : Natural -> Natural) -> f (1 + 1)",
+                "\u{3bb}(f : Natural \u{2192} Natural) \u{2192} f 2\n",
+            ),
             ("-0", "+0\n"),
             ("''\n  a\n    b\n  ''", "\"a\\n  b\\n\"\n"),
             (
@@ -52,12 +73,16 @@ fn normalises_functions_and_bindings(rt: HostRuntime) -> Result<(), Fail> {
 
 #[test]
 fn normalises_truth_values(rt: HostRuntime) -> Result<(), Fail> {
-    prints(
+    prints_below(
         &rt,
         rt.alloc(),
+        (
+            "\\(p : Bool) -> \\(x : Bool) -> \\(y : Bool) -> ",
+            "\u{3bb}(p : Bool) \u{2192} \u{3bb}(x : Bool) \u{2192} \u{3bb}(y : Bool) \u{2192} ",
+        ),
         &[
-            ("if True then 1 else x", "1\n"),
-            ("if False then x else 2", "2\n"),
+            ("if True then 1 else 3", "1\n"),
+            ("if False then 3 else 2", "2\n"),
             ("if p then True else False", "p\n"),
             (
                 "\\(p : Bool) -> if p then 1 else 1",
@@ -82,9 +107,13 @@ fn normalises_truth_values(rt: HostRuntime) -> Result<(), Fail> {
 
 #[test]
 fn normalises_numbers(rt: HostRuntime) -> Result<(), Fail> {
-    prints(
+    prints_below(
         &rt,
         rt.alloc(),
+        (
+            "\\(x : Natural) -> \\(y : Natural) -> ",
+            "\u{3bb}(x : Natural) \u{2192} \u{3bb}(y : Natural) \u{2192} ",
+        ),
         &[
             ("0 + x", "x\n"),
             ("x + 1", "x + 1\n"),
@@ -116,9 +145,13 @@ fn normalises_numbers(rt: HostRuntime) -> Result<(), Fail> {
 
 #[test]
 fn normalises_texts(rt: HostRuntime) -> Result<(), Fail> {
-    prints(
+    prints_below(
         &rt,
         rt.alloc(),
+        (
+            "\\(h : Text) -> \\(n : Text) -> \\(x : Text) -> ",
+            "\u{3bb}(h : Text) \u{2192} \u{3bb}(n : Text) \u{2192} \u{3bb}(x : Text) \u{2192} ",
+        ),
         &[
             (
                 "\\(t : Text) -> \"\" ++ t ++ \"!\"",
@@ -136,11 +169,15 @@ fn normalises_texts(rt: HostRuntime) -> Result<(), Fail> {
 
 #[test]
 fn normalises_lists(rt: HostRuntime) -> Result<(), Fail> {
-    prints(
+    prints_below(
         &rt,
         rt.alloc(),
+        (
+            "\\(x : Bool) -> \\(y : Bool) -> \\(xs : List Bool) -> ",
+            "\u{3bb}(x : Bool) \u{2192} \u{3bb}(y : Bool) \u{2192} \u{3bb}(xs : List Bool) \u{2192} ",
+        ),
         &[
-            ("([] : List Bool) # x", "x\n"),
+            ("([] : List Bool) # xs", "xs\n"),
             ("[ 1 ] # [ 2 ]", "[ 1, 2 ]\n"),
             ("List/length Bool [ x, y ]", "2\n"),
             ("List/head Bool [ x, y ]", "Some x\n"),
@@ -165,9 +202,13 @@ fn normalises_lists(rt: HostRuntime) -> Result<(), Fail> {
 
 #[test]
 fn normalises_records(rt: HostRuntime) -> Result<(), Fail> {
-    prints(
+    prints_below(
         &rt,
         rt.alloc(),
+        (
+            "\\(r : { b : Bool }) -> \\(h : { A : Bool, B : Bool }) -> ",
+            "\u{3bb}(r : { b : Bool }) \u{2192} \u{3bb}(h : { A : Bool, B : Bool }) \u{2192} ",
+        ),
         &[
             ("{ a = 1 } /\\ { b = 2 }", "{ a = 1, b = 2 }\n"),
             ("{ a.x = 1 } /\\ { a.y = 2 }", "{ a = { x = 1, y = 2 } }\n"),

@@ -8,7 +8,7 @@ ghost use Rattle.dh_top.specs.Runs.{Makes, reading};
 use crate::decoding::decoding;
 use crate::encoding::encoding;
 use crate::inputs::{InputFault, read_input};
-use crate::normalizing::normalizing;
+use crate::typing::typing;
 use crate::words::read_words;
 use dh_ports::Feed;
 use dh_syntax::{Command, ParseFault, Status, Verb};
@@ -77,7 +77,7 @@ fn answer(alloc: Global, verb: Verb, input: &[u8]) -> Result<Reply, AllocError>
     match verb {
         Verb::Encode => encoding(alloc, input),
         Verb::Decode => decoding(alloc, input),
-        Verb::Normalize => normalizing(alloc, input),
+        Verb::Type | Verb::Normalize | Verb::Hash => typing(alloc, verb, input),
     }
 }
 

@@ -16,8 +16,12 @@ fn verb_named(word: &str) -> Option<Verb>
         Some(Verb::Encode)
     } else if word == "decode" {
         Some(Verb::Decode)
+    } else if word == "type" {
+        Some(Verb::Type)
     } else if word == "normalize" {
         Some(Verb::Normalize)
+    } else if word == "hash" {
+        Some(Verb::Hash)
     } else {
         None
     }

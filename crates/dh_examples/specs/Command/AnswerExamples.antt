@@ -25,6 +25,12 @@ decode_with_workers = refl
 normalize_alone : command_of (codes "normalize" ∷ []) ≡ Ok (record { verb = verb.Normalize; workers = 4 })
 normalize_alone = refl
 
+type_alone : command_of (codes "type" ∷ []) ≡ Ok (record { verb = verb.Type; workers = 4 })
+type_alone = refl
+
+hash_with_workers : command_of (codes "hash" ∷ codes "--workers" ∷ codes "1" ∷ []) ≡ Ok (record { verb = verb.Hash; workers = 1 })
+hash_with_workers = refl
+
 encode_and_more : command_of (codes "encode" ∷ codes "x" ∷ []) ≡ Err 2
 encode_and_more = refl
 

@@ -17,18 +17,38 @@ Word = List ℕ
 -- ---- the commands
 
 abbrev pub verbs : List Verb
-verbs = verb.Encode ∷ verb.Decode ∷ verb.Normalize ∷ []
+verbs = verb.Encode ∷ verb.Decode ∷ verb.Type ∷ verb.Normalize ∷ verb.Hash ∷ []
 
 abbrev pub verb_name : Verb → Word
 verb_name verb.Encode = codes "encode"
 verb_name verb.Decode = codes "decode"
+verb_name verb.Type = codes "type"
 verb_name verb.Normalize = codes "normalize"
+verb_name verb.Hash = codes "hash"
 
 -- which commands read their input
 abbrev pub reads : Verb → Bool
 reads verb.Encode = true
 reads verb.Decode = true
+reads verb.Type = true
 reads verb.Normalize = true
+reads verb.Hash = true
+
+-- which commands infer a type
+abbrev pub types : Verb → Bool
+types verb.Encode = false
+types verb.Decode = false
+types verb.Type = true
+types verb.Normalize = true
+types verb.Hash = true
+
+-- which of them find a normal form too
+abbrev pub takes_form : Verb → Bool
+takes_form verb.Encode = false
+takes_form verb.Decode = false
+takes_form verb.Type = false
+takes_form verb.Normalize = true
+takes_form verb.Hash = true
 
 -- the command that a word names
 abbrev pub verb_of : Word → Option Verb

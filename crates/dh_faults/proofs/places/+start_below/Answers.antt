@@ -11,7 +11,7 @@ returns-in-Some-get t c =
     c.start_below.ensures
     ∙ ap (λ ps. start_below (out-Span c.in-Some-get.part.now).from (spans_of ps) c.in-Some.rest.now) c.as_slice.ensures
     ∙ below-some c.args.here c.in-Some.number.now c.args.parts.now c.in-Some-get.part.now c.args.path.now c.in-Some.rest.now c.in-Some.ensures.cases.0
-        (slice_get_read c.args.parts.now _ c.in-Some.number.now c.in-Some-get.part.now refl c.in-Some-get.ensures.lookup.3.0 c.in-Some-get.ensures.lookup.1)
+    (slice_get_read c.args.parts.now _ c.in-Some.number.now c.in-Some-get.part.now refl c.in-Some-get.ensures.lookup.3.0 c.in-Some-get.ensures.lookup.1)
 
 pub returns-in-None : goal.returns-in-None
 returns-in-None t c = below-none c.args.here c.in-Some.number.now c.args.parts.now c.args.path.now c.in-Some.rest.now c.in-Some.ensures.cases.0 (past_end c.args.parts.now c.in-Some.number.now c.in-None.ensures.lookup.3)

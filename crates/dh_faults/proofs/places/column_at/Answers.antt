@@ -17,9 +17,9 @@ returns c =
     let text = c.args.text.now in
     let back = reverse (take c.min.result text) in
     let counted : c.count.result ≡ length (filter begins_character (take_while in_line back)) =
-        count_from_yields_List c.filter.result _ c.count.ensures.ran
-        (YieldsList-from_filter _ begins_character
-        (YieldsList-from_take_while _ in_line (YieldsList-from_rev_slice (take c.min.result text) (cc)) (ap take_while_callee c.filter.ensures.source ∙ c.take_while-line.ensures.closure) (ap take_while_done c.filter.ensures.source ∙ c.take_while-line.ensures.done) (λ x b q k. search (rules, tests)))
-        c.filter.ensures.closure (λ x b q k. search (rules, tests))) in
+    count_from_yields_List c.filter.result _ c.count.ensures.ran
+    (YieldsList-from_filter _ begins_character
+    (YieldsList-from_take_while _ in_line (YieldsList-from_rev_slice (take c.min.result text) (cc)) (ap take_while_callee c.filter.ensures.source ∙ c.take_while-line.ensures.closure) (ap take_while_done c.filter.ensures.source ∙ c.take_while-line.ensures.done) (λ x b q k. search (rules, tests)))
+    c.filter.ensures.closure (λ x b q k. search (rules, tests))) in
     let all = counted ∙ ap (λ t. length (filter begins_character (take_while in_line (reverse t)))) (up_to c.min.result c.args.at text c.min.ensures) in
     omega (arith, all)

@@ -1,0 +1,204 @@
+//! The commands that infer a type: from a text to the printed type, the printed normal form, or the digest of the normal form.
+
+ghost use Rattle.std.specs.Prelude.{◌≡◌, ◌≢◌, ◌≤◌, ◌+◌, ◌^◌, ℕ, List, [], IsTrue, IfOk, IfErr, Ok};
+ghost use Rattle.dh_syntax.specs.Command.Answer.{Does, IsTyped, TypedAnswer, answer, digest_line, fault as fault_of, line};
+ghost use Rattle.dh_syntax.specs.Command.FaultLines.{norm_fault_line};
+ghost use Rattle.dh_syntax.specs.Command.Words.{types};
+ghost use Rattle.dh_syntax.specs.Expressions.Arity.{IsWellFormed};
+ghost use Rattle.dh_syntax.specs.Expressions.Bridge.{term};
+ghost use Rattle.dh_syntax.specs.Expressions.Nesting.{nesting};
+ghost use Rattle.dh_syntax.specs.Expressions.Spellable.{IsSpellable};
+ghost use Rattle.dh_syntax.specs.Expressions.Tree.{Term};
+ghost use Rattle.dh_syntax.specs.Limits.{most_nesting, whole_purse};
+ghost use Rattle.dh_syntax.specs.Names.Indices.{IndicesBelow};
+ghost use Rattle.dh_syntax.specs.Normalising.Named.{names};
+ghost use Rattle.dh_syntax.specs.Normalising.Normal.{HasNormalForm, IsLicensed};
+ghost use Rattle.dh_syntax.specs.Text.Printed.{text_of};
+ghost use Rattle.dh_syntax.specs.Text.Spelling.{ParsesTo};
+ghost use Rattle.dh_syntax.specs.Typing.NamedTyping.{IsIll};
+ghost use Rattle.dh_syntax.specs.declared.faults.NormFault.TheVariants as limits;
+ghost use Rattle.dh_syntax.specs.declared.statuses.Status.TheVariants as statuses;
+ghost use Rattle.dh_syntax.specs.declared.verbs.Verb.TheVariants as verbs;
+ghost use Rattle.dh_top.specs.Replies.{written};
+
+use crate::imports::has_imports;
+use crate::replies::{Reply, misspelling};
+use dh_digest::{digest, digest_text};
+use dh_faults::{Placed, place_of};
+use dh_infer::infer;
+use dh_norm::normal_form;
+use dh_parse::{parse, parse_spans};
+use dh_print::print;
+use dh_syntax::{
+    Digest, Expr, Ill, NormFault, ParseFault, Purse, Status, TypeFault, Verb, WHOLE_PURSE,
+};
+use std::alloc::{AllocError, Global};
+
+/// The reply that prints an expression on one line.
+pub(crate) fn printed_line(alloc: Global, e: &Expr) -> Result<Reply, AllocError>
+    requires { IsWellFormed (term e.now) }
+    ensures { IfOk result (λ r. written r ≡ answer (line (text_of (term e.now)))) }
+{
+    let mut text = print(alloc, e)?.into_string();
+    text.push_str("\n")?;
+    Ok(Reply::answer(alloc, text.into_bytes()))
+}
+
+/// The reply that prints a digest on one line.
+fn digest_reply(alloc: Global, digest: &Digest) -> Result<Reply, AllocError>
+    ensures { IfOk result (λ r. written r ≡ answer (line (digest_line digest.now))) }
+{
+    let digits = digest_text(alloc, digest)?;
+    let digits = digits.as_str();
+    let text = format!(in alloc; "sha256:{digits}\n")?;
+    Ok(Reply::answer(alloc, text.into_bytes()))
+}
+
+/// The reply that names a limit.
+fn limit(alloc: Global, limit: NormFault) -> Result<Reply, AllocError>
+    ensures { IfOk result (λ r. written r ≡ fault_of (norm_fault_line limit) statuses.Limit) }
+{
+    let text = format!(in alloc; "{limit}\n")?;
+    Ok(Reply::refusal(alloc, text, Status::Limit))
+}
+
+/// The reply that tells a place that has no type in the text that spells this expression.
+fn ill_reply(
+    alloc: Global,
+    verb: Verb,
+    text: &[u8],
+    e: &Expr,
+    ill: &Ill,
+) -> Result<Reply, AllocError>
+    requires spelled { ParsesTo text.now (Ok (term e.now)) }
+    requires refused { IsIll [] (term e.now) ill.now.path ill.now.rule }
+    ensures { IfOk result (λ r. TypedAnswer verb text.now (term e.now) (written r)) }
+{
+    match parse_spans(alloc, text) {
+        Ok((_, spans)) => {
+            let place = place_of(text, &spans, ill.path.as_slice());
+            let line = format!(in alloc; "{}\n", Placed { ill, place })?;
+            Ok(Reply::refusal(alloc, line, Status::Ill))
+        }
+        Err(fault) => match fault {
+            ParseFault::Memory => Err(AllocError),
+            _ => unreachable!(),
+        },
+    }
+}
+
+/// The normal form of an expression, found with a whole purse.
+fn whole_form(alloc: Global, e: &Expr) -> Result<Expr, NormFault>
+    requires { IsSpellable (term e.now) }
+    ensures ok { IfOk result (λ f. HasNormalForm names (term e.now) (term f)) }
+    ensures formed { IfOk result (λ f. IsWellFormed (term f)) }
+    ensures shallow { IfOk result (λ f. nesting (term f) ≤ most_nesting) }
+    ensures indices { IfOk result (λ f. IndicesBelow (2 ^ 31 + most_nesting) (term f)) }
+    ensures err { IfErr result (λ l. IsLicensed names nesting whole_purse (term e.now) l) }
+{
+    let mut purse = Purse { left: WHOLE_PURSE };
+    normal_form(alloc, e, &mut purse)
+}
+
+/// The reply that names the limit of a normal form, where there is memory for it.
+fn limited(alloc: Global, fault: NormFault) -> Result<Reply, AllocError>
+    ensures { IfOk result (λ r. (fault ≢ limits.Memory) × (written r ≡ fault_of (norm_fault_line fault) statuses.Limit)) }
+{
+    match fault {
+        NormFault::Memory => Err(AllocError),
+        _ => limit(alloc, fault),
+    }
+}
+
+/// The reply of `normalize` to an expression that has a type.
+fn normal_reply(alloc: Global, e: &Expr) -> Result<Reply, AllocError>
+    requires spellable { IsSpellable (term e.now) }
+    requires typed { (t : Term) × IsTyped (term e.now) t }
+    ensures { IfOk result (λ r. (text : List ℕ) → TypedAnswer verbs.Normalize text (term e.now) (written r)) }
+{
+    match whole_form(alloc, e) {
+        Ok(form) => printed_line(alloc, &form),
+        Err(fault) => limited(alloc, fault),
+    }
+}
+
+/// The reply of `hash` to an expression that has a type.
+fn hash_reply(alloc: Global, e: &Expr) -> Result<Reply, AllocError>
+    requires spellable { IsSpellable (term e.now) }
+    requires typed { (t : Term) × IsTyped (term e.now) t }
+    ensures { IfOk result (λ r. (text : List ℕ) → TypedAnswer verbs.Hash text (term e.now) (written r)) }
+{
+    match whole_form(alloc, e) {
+        Ok(form) => digest_reply(alloc, &digest(alloc, &form)?),
+        Err(fault) => limited(alloc, fault),
+    }
+}
+
+/// The reply to an expression of this type.
+fn typed_reply(
+    alloc: Global,
+    verb: Verb,
+    text: &[u8],
+    e: &Expr,
+    typed: &Expr,
+) -> Result<Reply, AllocError>
+    requires types { IsTrue (types verb) }
+    requires spellable { IsSpellable (term e.now) }
+    requires typed { IsTyped (term e.now) (term typed.now) }
+    requires formed { IsWellFormed (term typed.now) }
+    requires shallow { nesting (term typed.now) ≤ most_nesting }
+    ensures { IfOk result (λ r. TypedAnswer verb text.now (term e.now) (written r)) }
+{
+    match verb {
+        Verb::Type => printed_line(alloc, typed),
+        Verb::Normalize => normal_reply(alloc, e),
+        Verb::Hash => hash_reply(alloc, e),
+        Verb::Encode | Verb::Decode => unreachable!(),
+    }
+}
+
+/// The reply to an expression that needs nothing outside of it.
+fn inferred_reply(alloc: Global, verb: Verb, text: &[u8], e: &Expr) -> Result<Reply, AllocError>
+    requires types { IsTrue (types verb) }
+    requires spelled { ParsesTo text.now (Ok (term e.now)) }
+    requires spellable { IsSpellable (term e.now) }
+    ensures { IfOk result (λ r. TypedAnswer verb text.now (term e.now) (written r)) }
+{
+    let mut purse = Purse { left: WHOLE_PURSE };
+    match infer(alloc, e, &mut purse) {
+        Ok(typed) => typed_reply(alloc, verb, text, e, &typed),
+        Err(TypeFault::Ill(ill)) => ill_reply(alloc, verb, text, e, &ill),
+        Err(TypeFault::Wide) => limit(alloc, NormFault::Wide),
+        Err(TypeFault::Spent) => limit(alloc, NormFault::Spent),
+        Err(TypeFault::Deep) => limit(alloc, NormFault::Deep),
+        Err(TypeFault::Memory) => Err(AllocError),
+    }
+}
+
+/// The reply to a text that spells this expression.
+fn spelled_reply(alloc: Global, verb: Verb, text: &[u8], e: &Expr) -> Result<Reply, AllocError>
+    requires types { IsTrue (types verb) }
+    requires spelled { ParsesTo text.now (Ok (term e.now)) }
+    requires spellable { IsSpellable (term e.now) }
+    ensures { IfOk result (λ r. Does verb text.now (written r)) }
+{
+    if has_imports(e) {
+        misspelling(alloc, ParseFault::Out(0))
+    } else {
+        inferred_reply(alloc, verb, text, e)
+    }
+}
+
+/// The reply of a command that infers a type to a text.
+pub(crate) fn typing(alloc: Global, verb: Verb, text: &[u8]) -> Result<Reply, AllocError>
+    requires { IsTrue (types verb) }
+    ensures { IfOk result (λ r. Does verb text.now (written r)) }
+{
+    match parse(alloc, text) {
+        Ok(e) => spelled_reply(alloc, verb, text, &e),
+        Err(fault) => match fault {
+            ParseFault::Memory => Err(AllocError),
+            _ => misspelling(alloc, fault),
+        },
+    }
+}
