@@ -195,7 +195,7 @@ NORMAL = [
 TYPED = [
     ("record of 5 n fields, n uses", uses, [500, 1000, 2000]),
     ("lets", lets, [100, 200, 400]),
-    ("function of n parameters, applied", parameters, [75, 150, 300]),
+    ("function of n parameters, applied", parameters, [60, 120, 240]),
     ("merge of n alternatives", merged, [500, 1000, 2000]),
     ("list of numbers", numbers, [25000, 50000, 100000]),
     ("library of n functions", library, [500, 1000, 2000]),
