@@ -1,3 +1,4 @@
 pub mod ImportExamples
 pub mod LocationExamples
 pub mod MachineExamples
+pub mod TextPathExamples

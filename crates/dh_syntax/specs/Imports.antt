@@ -8,4 +8,6 @@ pub mod Outcomes
 pub mod Records
 pub mod Replay
 pub mod Resolver
+pub mod RootEnds
+pub mod TextPaths
 pub mod Walk
