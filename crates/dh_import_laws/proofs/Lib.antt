@@ -1,3 +1,4 @@
+pub mod Blamed
 pub mod Calm
 pub mod CodeRises
 pub mod CodeSteps

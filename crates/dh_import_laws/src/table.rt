@@ -1,4 +1,5 @@
 //! Laws of the table that workers share.
+ghost use Rattle.dh_import_laws.specs.Blames.{FaultsStand, RootFaultsStand};
 ghost use Rattle.dh_import_laws.specs.ImportLaws.{OutcomesAreResolved, RootIsResolved, VisitsAreResolved, GoesOn, FetchesAreWanted, FrozenLeadAfterLooks, InFlightOnce, InFlightUnrecorded, InFlightDue, OutcomesStay, RootStays, TooManyStay, TextsAreParsed, EntriesAreGood, LimitsAreLicensed};
 
 /// After every history each outcome, and the end of the root, is the resolver's over the record; at a ready root so are
@@ -40,4 +41,10 @@ pub fn records_are_true()
     ensures texts { TextsAreParsed }
     ensures entries { EntriesAreGood }
     ensures limits { LimitsAreLicensed }
+{}
+
+/// A fault of typing that decides stands in the text of a key of which each import has a value: that of a key, and that of the root.
+pub fn faults_stand_in_texts()
+    ensures keys { FaultsStand }
+    ensures root { RootFaultsStand }
 {}
