@@ -7,3 +7,4 @@ pub mod Numbers
 pub mod Skipping
 pub mod Visiting
 pub mod Wanting
+pub mod Ways

@@ -23,6 +23,7 @@ mod parts;
 mod results;
 mod scans;
 mod skips;
+mod text_paths;
 mod visits;
 mod wants;
 
@@ -34,6 +35,7 @@ pub use marks::Marks;
 pub use nexts::next;
 pub use results::Results;
 pub use scans::{Edge, Edges, Scan};
+pub use text_paths::text_path;
 pub use wants::{asked, wanted};
 
 #[cfg(test)]

@@ -36,7 +36,7 @@ pub fn next<R: Results>(scan: &Scan, parent: Option<&Loc>, results: &R) -> Next
 
 // What comes next after an expression, where this came before it; and the edges after it.
 #[cycle(next)]
-fn next_in<'a, R: Results>(
+pub(crate) fn next_in<'a, R: Results>(
     before: Next,
     e: &Expr,
     edges: &'a [Edge],

@@ -98,5 +98,7 @@ fn a_text_without_imports_is_ready(rt: HostRuntime) -> Result<(), Fail> {
     assert!(rt; is_assembled(&scan, &results, &value));
     let other = Expr::Node(Op::Nat(4), Many::new(alloc));
     assert!(rt; !is_assembled(&scan, &results, &other));
+    let way = text_path(alloc, &scan, None, &results, &[2, 1])?;
+    assert_eq!(rt; way.as_slice(), [2].as_slice());
     Ok(())
 }

@@ -6,9 +6,11 @@
 //! ```
 #![tactic(auto)]
 
+mod imports;
 mod lines;
 mod places;
 
+pub use imports::{in_item, why_status, why_text};
 pub use lines::Placed;
 pub use places::{Place, place_of};
 

@@ -1,8 +1,10 @@
-//! Places of nodes in texts, with stretches written by hand.
+//! Places of nodes in texts, with stretches written by hand; lines and statuses of the faults of imports.
 
-use crate::{Place, Placed, place_of};
+use crate::{Place, Placed, in_item, place_of, why_status, why_text};
 use dh_places::Span;
-use dh_syntax::{Ill, Many};
+use dh_syntax::{
+    Digest, Ill, Key, Loc, Many, Mode, NormFault, ParseFault, Piece, Status, TypeFault, Why,
+};
 use std::alloc::{AllocError, Global};
 use std::test::Fail;
 
@@ -69,5 +71,62 @@ fn lines_tell_rule_path_and_place(rt: HostRuntime) -> Result<(), Fail> {
     };
     let line = format!(in alloc; "{}", Placed { ill: &ill, place })?;
     assert_eq!(rt; line.as_str(), "type rule 13 at 1/0, line 2, column 15");
+    Ok(())
+}
+
+#[test]
+fn reasons_have_a_line_and_a_status(rt: HostRuntime) -> Result<(), Fail> {
+    let alloc = rt.alloc();
+    let rows = [
+        (
+            Why::Parse(ParseFault::Syntax(9)),
+            "syntax at 9",
+            Status::Text,
+        ),
+        (
+            Why::Typing(TypeFault::Wide),
+            "number or literal too wide",
+            Status::Limit,
+        ),
+        (Why::Norm(NormFault::Deep), "too deep", Status::Limit),
+        (Why::Absent, "absent", Status::Import),
+        (Why::Broken(404), "status 404", Status::Import),
+        (Why::Https, "https is refused", Status::Import),
+        (Why::Failed, "device failed", Status::Desk),
+        (
+            Why::Differs {
+                wanted: Digest([1; 32]),
+                got: Digest([0xFE; 32]),
+            },
+            "digest differs: wanted sha256:0101010101010101010101010101010101010101010101010101010101010101 got sha256:fefefefefefefefefefefefefefefefefefefefefefefefefefefefefefefefe",
+            Status::Import,
+        ),
+        (
+            Why::Insane(Loc::Env(Piece::new(alloc, "X")?)),
+            "may not import env:X",
+            Status::Import,
+        ),
+        (
+            Why::Cors(Loc::Missing),
+            "cross-origin import of missing refused",
+            Status::Import,
+        ),
+        (Why::Cycle, "import cycle", Status::Import),
+        (Why::TooMany, "more than 4096 imports", Status::Limit),
+    ];
+    for (why, line, status) in &rows {
+        assert_eq!(rt; why_text(alloc, why)?.as_str(), *line);
+        assert_eq!(rt; why_status(why), *status);
+    }
+    let key = Key {
+        loc: Loc::Missing,
+        mode: Mode::Code,
+        digest: None,
+    };
+    assert_eq!(rt;
+        in_item(alloc, Some(&key), "absent")?.as_str(),
+        "in missing: absent"
+    );
+    assert_eq!(rt; in_item(alloc, None, "absent")?.as_str(), "absent");
     Ok(())
 }

@@ -50,3 +50,6 @@ is_assembled-requires g c = literal_ready _ _ _ c.new.ensures c.new-2.ensures
 
 pub is_assembled-requires-2 : goal.is_assembled-requires-2
 is_assembled-requires-2 g c = literal_ready _ _ _ c.new.ensures c.new-2.ensures
+
+pub text_path-requires : goal.text_path-requires
+text_path-requires g c = literal_fits _ _ _ c.new.ensures c.new-2.ensures
