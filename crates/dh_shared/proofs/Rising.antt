@@ -7,6 +7,7 @@ use Rattle.dh_syntax.specs.Imports.Machine as machine
 use Rattle.dh_syntax.specs.Imports.Machine.{State, Task, InFlight, effect}
 use Rattle.dh_syntax.specs.Imports.Replay as replay
 use Rattle.dh_syntax.specs.Imports.Replay.{kind_of, root_end}
+use Rattle.dh_syntax.proofs.Bridge.{term-one_to_one}
 use Rattle.dh_syntax.proofs.Numbers.{eq-itself}
 use Rattle.dh_table.specs.declared.claims.Claimed.{Claimed}
 use Rattle.dh_table.specs.declared.claims.Claimed.TheVariants as claimed
@@ -34,17 +35,22 @@ added : (p : Step → Bool) (old new more : List Step) → new ≡ old ++ more �
 added p old new more is = omega (arith, ap (λ xs. count_by p xs) is, sum_by-append (λ (x : Step). cond (p x) 1 0) old more)
 
 -- the steps that were added, with what else is known
-rises : (old new : Shown) (more : List Step) (failed : ℕ) → new.history ≡ old.history ++ more → failures (state_of new) ≡ failures (state_of old) + failed → StaysDecided old new
+rises : (old new : Shown) (more : List Step) (failed : ℕ) → new.history ≡ old.history ++ more → failures (state_of new) ≡ failures (state_of old) + failed → new.root.expr ≡ old.root.expr → StaysDecided old new
     → Rises old new (count_by is_claim more) (count_by is_recorded more) (count_by is_release more) (count_by is_late more) (count_by is_fetch_claim more) failed
-rises old new more failed is f d = record {
+rises old new more failed is f r d = record {
   claims_are = added is_claim old.history new.history more is;
   kept_are = added is_recorded old.history new.history more is;
   releases_are = added is_release old.history new.history more is;
   lates_are = added is_late old.history new.history more is;
   fetches_are = added is_fetch_claim old.history new.history more is;
   failed_are = f;
+  root_is = r;
   stays = d;
 }
+
+-- a table whose state has the root of another is of the root of the other
+rooted : (old new : Shown) (s : State) → state_of new ≡ s → s.root ≡ (state_of old).root → new.root.expr ≡ old.root.expr
+rooted old new s is e = term-one_to_one new.root.expr old.root.expr (ap (λ (x : State). x.root) is ∙ e)
 
 same : (a b : ℕ) → a ≡ b → a ≡ b + 0
 same a b e = omega arith
@@ -70,14 +76,14 @@ flies_now worker s new ticket h =
 drawn : (worker : ℕ) (old new : Shown) (ticket : Ticket) (mark : Option ℕ) → MayMark old.keys mark (state_of old) → HandsOut worker (after_mark old.keys mark (state_of old)) new ticket
     → Adds old new (mark_steps mark ++ claim_steps worker (claimed.Task ticket)) → Draws old new (claimed.Task ticket)
 drawn worker old new ticket None may h adds =
-    (subst (λ n. Rises old new 1 0 0 0 n 0) (zero_left (cond (is_fetch ticket.kind) 1 0)) (rises old new _ 0 adds.history_is (same _ _ (ap failures h.state_is)) (λ d. none_some _ h.undecided d)), flies_now worker _ new ticket h)
+    (subst (λ n. Rises old new 1 0 0 0 n 0) (zero_left (cond (is_fetch ticket.kind) 1 0)) (rises old new _ 0 adds.history_is (same _ _ (ap failures h.state_is)) (rooted old new _ h.state_is refl) (λ d. none_some _ h.undecided d)), flies_now worker _ new ticket h)
 drawn worker old new ticket (Some n) may h adds =
-    (subst (λ n. Rises old new 1 0 0 0 n 0) (zero_left (cond (is_fetch ticket.kind) 1 0)) (rises old new _ 0 adds.history_is (same _ _ (ap failures h.state_is)) (λ d. none_some _ may.0 d)), flies_now worker _ new ticket h)
+    (subst (λ n. Rises old new 1 0 0 0 n 0) (zero_left (cond (is_fetch ticket.kind) 1 0)) (rises old new _ 0 adds.history_is (same _ _ (ap failures h.state_is)) (rooted old new _ h.state_is refl) (λ d. none_some _ may.0 d)), flies_now worker _ new ticket h)
 
 idles : (worker : ℕ) (old new : Shown) (mark : Option ℕ) → MayMark old.keys mark (state_of old) → Idles (after_mark old.keys mark (state_of old)) new
     → Adds old new (mark_steps mark ++ claim_steps worker claimed.Idle) → Draws old new claimed.Idle
-idles worker old new None may h adds = rises old new _ 0 adds.history_is (same _ _ (ap failures h.state_is)) (λ d. none_some _ h.undecided d)
-idles worker old new (Some n) may h adds = rises old new _ 0 adds.history_is (same _ _ (ap failures h.state_is)) (λ d. none_some _ may.0 d)
+idles worker old new None may h adds = rises old new _ 0 adds.history_is (same _ _ (ap failures h.state_is)) (rooted old new _ h.state_is refl) (λ d. none_some _ h.undecided d)
+idles worker old new (Some n) may h adds = rises old new _ 0 adds.history_is (same _ _ (ap failures h.state_is)) (rooted old new _ h.state_is refl) (λ d. none_some _ may.0 d)
 
 is_over : (worker : ℕ) (old new : Shown) (mark : Option ℕ) → MayMark old.keys mark (state_of old) → IsOver (after_mark old.keys mark (state_of old)) new
     → Adds old new (mark_steps mark ++ claim_steps worker claimed.Over) → Draws old new claimed.Over
@@ -85,8 +91,8 @@ is_over worker old new mark may h adds = let ended : IsSome (root_end (state_of 
   where
     go : (mark : Option ℕ) → MayMark old.keys mark (state_of old) → IsOver (after_mark old.keys mark (state_of old)) new → Adds old new (mark_steps mark ++ claim_steps worker claimed.Over)
         → IsSome (root_end (state_of new)) → Rises old new 0 0 0 0 0 0
-    go None may h adds ended = rises old new _ 0 adds.history_is (same _ _ (ap failures h.state_is)) (λ d. ended)
-    go (Some n) may h adds ended = rises old new _ 0 adds.history_is (same _ _ (ap failures h.state_is)) (λ d. ended)
+    go None may h adds ended = rises old new _ 0 adds.history_is (same _ _ (ap failures h.state_is)) (rooted old new _ h.state_is refl) (λ d. ended)
+    go (Some n) may h adds ended = rises old new _ 0 adds.history_is (same _ _ (ap failures h.state_is)) (rooted old new _ h.state_is refl) (λ d. ended)
 
 pub draws : (worker : ℕ) (old new : Shown) (answer : Claimed) → Claims worker old new answer → Draws old new answer
 draws worker old new (claimed.Task ticket) c = drawn worker old new ticket c.mark c.may c.answers c.adds
@@ -103,21 +109,22 @@ unchanged old new is = subst (λ x. Rises old x 0 0 0 0 0 0) (sym is) (record {
   lates_are = omega arith;
   fetches_are = omega arith;
   failed_are = omega arith;
+  root_is = refl;
   stays = λ d. d;
 })
 
 pub puts_back : (answer : Bool) (old new : Shown) (serial : ℕ) → Releases answer old new serial → PutsBack answer old new serial
-puts_back true old new serial r = rises old new _ 0 r.adds.history_is (same _ _ (ap failures r.state_is)) (decided_like old new _ r.state_is refl)
+puts_back true old new serial r = rises old new _ 0 r.adds.history_is (same _ _ (ap failures r.state_is)) (rooted old new _ r.state_is refl) (decided_like old new _ r.state_is refl)
 puts_back false old new serial r = (r.0, unchanged old new r.1)
 
 -- ---- deliveries
 
 pub hands_in : (ticket : Ticket) (n : News) (old new : Shown) (answer : Taken) → Takes ticket n old new answer → StaysDecided old new → failures (state_of new) ≡ failures (state_of old) + new_failures n answer
     → HandsIn n old new answer
-hands_in ticket (news.Fetched l got scan) old new taken.Kept t d f = rises old new _ _ t.adds.history_is f d
-hands_in ticket (news.Looked l look) old new taken.Kept t d f = rises old new _ _ t.adds.history_is f d
-hands_in ticket (news.Finished done) old new taken.Kept t d f = rises old new _ _ t.adds.history_is f d
-hands_in ticket n old new (taken.Late back m) t d f = rises old new (Step.Late ticket.serial ∷ []) 0 (ap (λ (s : Shown). s.history) t.1.shown_is) f d
+hands_in ticket (news.Fetched l got scan) old new taken.Kept t d f = rises old new _ _ t.adds.history_is f (rooted old new _ t.state_is refl) d
+hands_in ticket (news.Looked l look) old new taken.Kept t d f = rises old new _ _ t.adds.history_is f (rooted old new _ t.state_is refl) d
+hands_in ticket (news.Finished done) old new taken.Kept t d f = rises old new _ _ t.adds.history_is f (rooted old new _ t.state_is refl) d
+hands_in ticket n old new (taken.Late back m) t d f = rises old new (Step.Late ticket.serial ∷ []) 0 (ap (λ (s : Shown). s.history) t.1.shown_is) f (ap (λ (s : Shown). s.root.expr) t.1.shown_is) d
 hands_in ticket n old new (taken.Memory back held) t d f = (unchanged old new t.3, t.1)
 
 -- ---- the work of a ticket

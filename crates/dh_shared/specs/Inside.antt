@@ -13,7 +13,7 @@ use Rattle.dh_table.specs.Shown.{Shown}
 use Rattle.dh_table.specs.States.{kind_by, state_of}
 use Rattle.dh_shared.specs.Counting.{is_fetch, is_claim, is_fetch_claim, is_recorded, is_release, is_late}
 
--- so many more steps of each kind, and failures, and a root that is decided stays so
+-- so many more steps of each kind, and failures; the root is the same, and where it is decided it stays so
 pub record Rises (old new : Shown) (claims kept releases lates fetches failed : ℕ) : Type 0 where
   pub claims_are : count_by is_claim new.history ≡ count_by is_claim old.history + claims
   pub kept_are : count_by is_recorded new.history ≡ count_by is_recorded old.history + kept
@@ -21,6 +21,7 @@ pub record Rises (old new : Shown) (claims kept releases lates fetches failed : 
   pub lates_are : count_by is_late new.history ≡ count_by is_late old.history + lates
   pub fetches_are : count_by is_fetch_claim new.history ≡ count_by is_fetch_claim old.history + fetches
   pub failed_are : failures (state_of new) ≡ failures (state_of old) + failed
+  pub root_is : new.root.expr ≡ old.root.expr
   pub stays : StaysDecided old new
 
 -- a task of the ticket's kind is in flight under its serial

@@ -61,7 +61,7 @@ fn is_failed_text(got: &Noted, scan: &Option<Parsed>) -> bool
 }
 
 /// What the task of a ticket needs.
-pub(crate) fn work_of<W>(
+pub(crate) fn work_of<W: World>(
     alloc: Global,
     table: &Table<W>,
     ticket: &Ticket,
@@ -75,7 +75,7 @@ pub(crate) fn work_of<W>(
 }
 
 /// One claim.
-pub(crate) fn draw<W>(table: &mut Table<W>, worker: u32) -> Claimed
+pub(crate) fn draw<W: World>(table: &mut Table<W>, worker: u32) -> Claimed
     requires { length table.old.flights + 3 ≤ table.old.spare }
     ensures { Draws table.old table.new result }
 {
@@ -83,7 +83,7 @@ pub(crate) fn draw<W>(table: &mut Table<W>, worker: u32) -> Claimed
 }
 
 /// One release, or none where the serial is not in flight.
-pub(crate) fn put_back<W>(table: &mut Table<W>, ticket: Ticket) -> bool
+pub(crate) fn put_back<W: World>(table: &mut Table<W>, ticket: Ticket) -> bool
     ensures { PutsBack result table.old table.new ticket.serial }
 {
     table.release(ticket)

@@ -16,9 +16,11 @@
 mod books;
 mod calls;
 mod locks;
+mod roots;
 mod shared_tables;
 mod turns;
 
 pub use books::{Blanks, Seat, Shares};
+pub use roots::Rooted;
 pub use shared_tables::SharedTable;
 pub use turns::Turn;

@@ -1,6 +1,8 @@
 //! What lies under the lock: the table, and the books of what all workers have counted.
 
 ghost use Rattle.std.specs.Prelude.{◌≡◌, ◌+◌, ◌≤◌, ◌<◌, count_by, length, IsSome};
+ghost use Rattle.std.specs.Coded.{codes};
+ghost use Rattle.dh_syntax.specs.contracts.expressions.Expr as rows;
 ghost use Rattle.dh_syntax.specs.Imports.Replay.{root_end};
 ghost use Rattle.dh_table.specs.Calls.{failures};
 ghost use Rattle.dh_table.specs.States.{state_of};
@@ -9,18 +11,32 @@ ghost use Rattle.dh_shared.specs.Turns.{Turns, Hands, Frees, Brings};
 
 use crate::books::{Books, Seat};
 use crate::calls::{draw, hand_in, is_fetch, put_back, tells_failure, work_of};
+use crate::roots::Rooted;
 use crate::turns::Turn;
 use dh_ports::World;
 use dh_table::{Claimed, News, Table, Taken, Ticket};
 use std::alloc::Global;
+use std::marker::PhantomData;
 use std::sync::ledger::Ledger;
 
-/// The table with the books: each book has the number of steps of its kind that the history has.
+/// The table of this root with the books: each book has the number of steps of its kind that the history has.
 #[derive(Drop)]
-pub struct Locked<W, C: Ledger, K: Ledger, R: Ledger, L: Ledger, F: Ledger, X: Ledger, O: Ledger> {
+pub struct Locked<
+    W: World,
+    Q: Rooted,
+    C: Ledger,
+    K: Ledger,
+    R: Ledger,
+    L: Ledger,
+    F: Ledger,
+    X: Ledger,
+    O: Ledger,
+> {
     pub(crate) alloc: Global,
     pub(crate) table: Table<W>,
     pub(crate) books: Books<C, K, R, L, F, X, O>,
+    pub(crate) of: PhantomData<Q>,
+    ghost root_in: { table.root.expr ≡ Q.root } by { Prim.hlevel (codes, rows.the_row.coded) },
     ghost claims_in: { count_by is_claim table.history ≡ books.claims },
     ghost kept_in: { count_by is_recorded table.history ≡ books.kept },
     ghost releases_in: { count_by is_release table.history ≡ books.releases },
@@ -30,16 +46,17 @@ pub struct Locked<W, C: Ledger, K: Ledger, R: Ledger, L: Ledger, F: Ledger, X: L
     ghost over_in: { 0 < books.overs → IsSome (root_end (state_of table)) },
 }
 
-impl<W: World, C: Ledger, K: Ledger, R: Ledger, L: Ledger, F: Ledger, X: Ledger, O: Ledger> Locked<
-    W,
-    C,
-    K,
-    R,
-    L,
-    F,
-    X,
-    O,
-> {
+impl<
+    W: World,
+    Q: Rooted,
+    C: Ledger,
+    K: Ledger,
+    R: Ledger,
+    L: Ledger,
+    F: Ledger,
+    X: Ledger,
+    O: Ledger,
+> Locked<W, Q, C, K, R, L, F, X, O> {
     /// One claim.
     pub(crate) fn claim(&mut self, seat: &mut Seat<C, K, R, L, F, X, O>) -> Turn
         ensures turn { Turns seat.old.shares seat.new.shares result }
@@ -63,6 +80,7 @@ impl<W: World, C: Ledger, K: Ledger, R: Ledger, L: Ledger, F: Ledger, X: Ledger,
             alloc,
             table,
             books,
+            of: _,
         } = self;
         match draw(table, seat.worker) {
             Claimed::Over => {
@@ -100,6 +118,7 @@ impl<W: World, C: Ledger, K: Ledger, R: Ledger, L: Ledger, F: Ledger, X: Ledger,
             alloc: _,
             table,
             books,
+            of: _,
         } = self;
         if put_back(table, ticket) {
             books.add_release(&mut seat.shares);
@@ -141,6 +160,7 @@ impl<W: World, C: Ledger, K: Ledger, R: Ledger, L: Ledger, F: Ledger, X: Ledger,
             alloc: _,
             table,
             books,
+            of: _,
         } = self;
         let failed = tells_failure(&news);
         match hand_in(table, ticket, news) {

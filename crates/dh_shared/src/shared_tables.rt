@@ -9,17 +9,20 @@ ghost use Rattle.dh_shared.specs.Turns.{Turns, Hands, Frees, Brings};
 
 use crate::books::{Blanks, Books, Seat, Shares};
 use crate::locks::Locked;
+use crate::roots::Rooted;
 use crate::turns::Turn;
 use dh_ports::World;
 use dh_table::{News, Table, Taken, Ticket};
 use std::alloc::{AllocError, Global};
+use std::marker::PhantomData;
 use std::sync::ledger::Ledger;
 use std::sync::{Condvar, Mutex, Wait};
 
-/// The table of one run under one lock, with its seven books.
+/// The table of one run under one lock, with its seven books. It is of the root of `Q` from its first step to its last.
 #[derive(Drop)]
 pub struct SharedTable<
-    W,
+    W: World,
+    Q: Rooted,
     C: Ledger,
     K: Ledger,
     R: Ledger,
@@ -28,12 +31,13 @@ pub struct SharedTable<
     X: Ledger,
     O: Ledger,
 > {
-    locked: Mutex<Locked<W, C, K, R, L, F, X, O>>,
+    locked: Mutex<Locked<W, Q, C, K, R, L, F, X, O>>,
     changed: Condvar,
 }
 
 impl<
     W: World,
+    Q: Rooted,
     C: Ledger,
     K: Ledger,
     R: Ledger,
@@ -41,7 +45,7 @@ impl<
     F: Ledger,
     X: Ledger,
     O: Ledger,
-> SharedTable<W, C, K, R, L, F, X, O> {
+> SharedTable<W, Q, C, K, R, L, F, X, O> {
     /// Puts a table before its first step under a lock, with a seat for each worker.
     pub fn open(
         alloc: Global,
@@ -50,12 +54,13 @@ impl<
         blanks: Blanks,
     ) -> Result<
         (
-            SharedTable<W, C, K, R, L, F, X, O>,
+            SharedTable<W, Q, C, K, R, L, F, X, O>,
             Vec<Seat<C, K, R, L, F, X, O>>,
         ),
         AllocError,
     >
         requires fresh { (table.history ≡ []) × (failures (state_of table) ≡ 0) }
+        requires root { table.root.expr ≡ Q.root }
         requires some { 0 < workers }
         requires claims { (blanks.claims.name ≡ C.name) × (blanks.claims.parts ≡ C.parts) × (C.parts ≡ workers) }
         requires kept { (blanks.kept.name ≡ K.name) × (blanks.kept.parts ≡ K.parts) × (K.parts ≡ workers) }
@@ -128,7 +133,8 @@ impl<
     pub fn close(self, seats: Vec<Seat<C, K, R, L, F, X, O>>) -> Table<W>
         requires some { 0 < vec_len seats }
         requires all { (vec_len seats ≡ C.parts) × (vec_len seats ≡ K.parts) × (vec_len seats ≡ R.parts) × (vec_len seats ≡ L.parts) × (vec_len seats ≡ F.parts) × (vec_len seats ≡ X.parts) × (vec_len seats ≡ O.parts) }
-        ensures { Closes result (sum_held (map (λ seat. seat.shares) seats.items)) }
+        ensures root { result.root.expr ≡ Q.root }
+        ensures closes { Closes result (sum_held (map (λ seat. seat.shares) seats.items)) }
     {
         let SharedTable { locked, changed: _ } = self;
         let all = merge_all(seats);
@@ -136,32 +142,53 @@ impl<
     }
 }
 
-fn lock_up<W, C: Ledger, K: Ledger, R: Ledger, L: Ledger, F: Ledger, X: Ledger, O: Ledger>(
+fn lock_up<
+    W: World,
+    Q: Rooted,
+    C: Ledger,
+    K: Ledger,
+    R: Ledger,
+    L: Ledger,
+    F: Ledger,
+    X: Ledger,
+    O: Ledger,
+>(
     alloc: Global,
     table: Table<W>,
     books: Books<C, K, R, L, F, X, O>,
-) -> Locked<W, C, K, R, L, F, X, O>
+) -> Locked<W, Q, C, K, R, L, F, X, O>
     requires fresh { (table.history ≡ []) × (failures (state_of table) ≡ 0) }
+    requires root { table.root.expr ≡ Q.root }
     requires books { books ≡ none_held 0 }
 {
     Locked {
         alloc,
         table,
         books,
+        of: PhantomData,
     }
 }
 
-fn audited<W, C: Ledger, K: Ledger, R: Ledger, L: Ledger, F: Ledger, X: Ledger, O: Ledger>(
-    locked: Locked<W, C, K, R, L, F, X, O>,
-    all: Shares<C, K, R, L, F, X, O>,
-) -> Table<W>
+fn audited<
+    W: World,
+    Q: Rooted,
+    C: Ledger,
+    K: Ledger,
+    R: Ledger,
+    L: Ledger,
+    F: Ledger,
+    X: Ledger,
+    O: Ledger,
+>(locked: Locked<W, Q, C, K, R, L, F, X, O>, all: Shares<C, K, R, L, F, X, O>) -> Table<W>
     requires { (all.parts ≡ C.parts) × (all.parts ≡ K.parts) × (all.parts ≡ R.parts) × (all.parts ≡ L.parts) × (all.parts ≡ F.parts) × (all.parts ≡ X.parts) × (all.parts ≡ O.parts) }
-    ensures { Closes result all }
+    ensures root { result.root.expr ≡ Q.root }
+    ensures closes { Closes result all }
 {
     let Locked {
         alloc: _,
         table,
         mut books,
+        of: _,
     } = locked;
     let mut all = all;
     books.audit(&mut all);

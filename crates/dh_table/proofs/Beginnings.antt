@@ -1,7 +1,7 @@
 -- A table before its first step.
 use Rattle.std.specs.Prelude.{◌≡◌, ◌<◌, ◌≤◌, ◌^◌, ℕ, Bool, true, false, if◌then◌else◌, List, [], ◌∷◌, length, map, reverse, All, Option, None, nat_lt, refl}
 use Rattle.std.specs.Option.{option_map}
-use Rattle.std.proofs.Common.{ap, sym, ◌∙◌, subst, append-nil, lt-ltb, le-ltb}
+use Rattle.std.proofs.Common.{ap, sym, ◌∙◌, subst, arith, append-nil, lt-ltb, le-ltb}
 use Rattle.std.proofs.lemmas.List.{length-map}
 use Rattle.std.proofs.lemmas.List.Elements.{All-nil, All-cons, All-head, All-tail, All-weaker}
 use Rattle.dh_syntax.specs.declared.locations.Key.{Key}
@@ -87,6 +87,15 @@ module _ (root : Scan) (es : List Entrant) (m : AreMore [] (entered_all [] (keys
   -- as many keys as the root names
   pub opened_count : length es ≡ length (distinct (keys (opening (term root.expr))))
   opened_count = sym (length-map es key_of_entrant) ∙ as_many (keys_in es) (keys (opening (term root.expr))) opened_distinct opened_members
+
+-- so many keys does the root name
+pub entered_count : (root : Term) → length (entered_all [] (keys_of None root)) ≡ length (distinct (keys (opening root)))
+entered_count root =
+    as_many (entered_all [] (keys_of None root)) (keys (opening root)) (distinct_entered [] (keys_of None root) tt)
+    (λ k. in_entered_all k [] (keys_of None root) ∙ ap (λ ks. is_in k (with_bare ks)) (sym (append-nil (keys_of None root))))
+
+pub few_enough : (n : ℕ) → n ≤ most_keys → n ≤ 2 ^ 32
+few_enough n h = omega arith
 
 pub entered_as : (a : List Entrant) (ks ls : List Key) (es : List Entrant) → a ≡ [] → ks ≡ ls → AreMore a (entered_all (keys_in a) ks) es → AreMore [] (entered_all [] ls) es
 entered_as a ks ls es p q m = subst (λ x. AreMore [] (entered_all [] x) es) q (subst (λ x. AreMore x (entered_all (keys_in x) ks) es) p m)

@@ -35,3 +35,5 @@ pub mod Keeping
 pub mod Courses
 pub mod Known
 pub mod Staying
+pub mod ReadBack
+pub mod Recorded

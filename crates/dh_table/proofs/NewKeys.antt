@@ -1,8 +1,8 @@
 -- Keys that are added at the end keep the numbers of those before them.
-use Rattle.std.specs.Prelude.{◌≡◌, ℕ, suc, Bool, true, false, ◌||◌, if◌then◌else◌, List, [], ◌∷◌, ◌++◌, length, Option, Some, None, is_some, MatchOption, All, refl}
+use Rattle.std.specs.Prelude.{◌≡◌, ◌<◌, ◌≤◌, ℕ, suc, Bool, true, false, ◌||◌, if◌then◌else◌, List, [], ◌∷◌, ◌++◌, length, take, drop, Option, Some, None, is_some, MatchOption, All, refl}
 use Rattle.std.specs.Option.{option_map}
-use Rattle.std.proofs.Common.{ap, sym, ◌∙◌, subst, append_assoc, append-nil}
-use Rattle.std.proofs.lemmas.List.{map-append}
+use Rattle.std.proofs.Common.{ap, sym, ◌∙◌, subst, arith, append_assoc, append-nil}
+use Rattle.std.proofs.lemmas.List.{map-append, length-append, length-map, take-append-drop}
 use Rattle.std.proofs.lemmas.List.Elements.{All-append, All-nil, All-cons, All-weaker}
 use Rattle.dh_syntax.specs.declared.locations.Key.{Key}
 use Rattle.dh_syntax.specs.declared.locations.Loc.{Loc}
@@ -16,7 +16,7 @@ use Rattle.dh_demand.specs.Results.{Row, number_of}
 use Rattle.dh_demand.specs.Scans.{IsEdge}
 use Rattle.dh_table.specs.declared.texts.Entrant.{Entrant}
 use Rattle.dh_table.specs.States.{rows_of, row_of_entrant}
-use Rattle.dh_table.specs.Inside.Entering.{keys_in, with_key, entered, entered_all, IsListed, IsNew, IsEntrant, AreMore, AreEdges}
+use Rattle.dh_table.specs.Inside.Entering.{key_of_entrant, keys_in, with_key, entered, entered_all, IsListed, IsNew, IsEntrant, AreMore, AreEdges}
 
 -- ---- numbers
 
@@ -168,3 +168,38 @@ pub entered_step : (a b c : List Entrant) (k j : Key) → j ≡ bare k → AreMo
 entered_step a b c k j p m n =
     more_joined a b c (with_key (keys_in a) j) (entered (keys_in a) k) m
     (more_keys b c (with_key (keys_in b) k) (entered (keys_in a) k) (ap (λ ks. with_key ks k) (m.keys_are ∙ ap (with_key (keys_in a)) p)) n)
+
+-- ---- keys only grow
+
+with_key_longer : (ks : List Key) (k : Key) → length ks ≤ length (with_key ks k)
+with_key_longer ks k = go (is_in k ks)
+  where
+    go : (b : Bool) → length ks ≤ length (if b then ks else ks ++ k ∷ [])
+    go true = omega arith
+    go false = omega (arith, length-append ks (k ∷ []))
+
+entered_longer : (ks js : List Key) → length ks ≤ length (entered_all ks js)
+entered_longer ks [] = omega arith
+entered_longer ks (j ∷ js) =
+    let a = with_key_longer ks (bare j) in
+    let b = with_key_longer (with_key ks (bare j)) j in
+    let c = entered_longer (entered ks j) js in
+    omega arith
+
+entered_joined : (ks js ls : List Key) → entered_all ks (js ++ ls) ≡ entered_all (entered_all ks js) ls
+entered_joined ks [] ls = refl
+entered_joined ks (j ∷ js) ls = entered_joined (entered ks j) js ls
+
+-- the first imports bring no more keys than all
+pub first_fewer : (ks js : List Key) (i : ℕ) → length (entered_all ks (take i js)) ≤ length (entered_all ks js)
+first_fewer ks js i =
+    let all : entered_all ks js ≡ entered_all (entered_all ks (take i js)) (drop i js) = ap (entered_all ks) (sym (take-append-drop i js)) ∙ entered_joined ks (take i js) (drop i js) in
+    subst (λ xs. length (entered_all ks (take i js)) ≤ length xs) (sym all) (entered_longer (entered_all ks (take i js)) (drop i js))
+
+pub many_entered : (a b : List Entrant) (ks : List Key) (most : ℕ) (js : List Key) (i : ℕ) → js ≡ take i ks → AreMore a (entered_all (keys_in a) js) b → most < length b → most < length (entered_all (keys_in a) ks)
+many_entered a b ks most js i is m h =
+    let l : length (keys_in b) ≡ length b = length-map b key_of_entrant in
+    let e = ap length m.keys_are in
+    let f = first_fewer (keys_in a) ks i in
+    let g = ap (λ xs. length (entered_all (keys_in a) xs)) is in
+    omega arith

@@ -1,5 +1,5 @@
--- What a worker may bring.
-use Rattle.std.specs.Prelude.{◌≡◌, ℕ, List, Option, Some, None, Ok, Err, ⊤}
+-- What a worker may bring, and what is recorded of it.
+use Rattle.std.specs.Prelude.{◌≡◌, ℕ, List, All, Option, Some, None, Ok, Err, ⊤}
 use Rattle.dh_syntax.specs.declared.locations.Digest.{Digest}
 use Rattle.dh_syntax.specs.declared.locations.Loc.{Loc}
 use Rattle.dh_syntax.specs.Expressions.Bridge.{term}
@@ -19,6 +19,8 @@ use Rattle.dh_table.specs.declared.news.Noted.{Noted}
 use Rattle.dh_table.specs.declared.news.Noted.TheVariants as noteds
 use Rattle.dh_table.specs.declared.news.Parsed.{Parsed}
 use Rattle.dh_table.specs.declared.news.Parsed.TheVariants as parseds
+use Rattle.dh_table.specs.declared.texts.Look.{Look}
+use Rattle.dh_table.specs.declared.texts.Text.{Text}
 
 -- ---- texts
 
@@ -70,6 +72,16 @@ abbrev pub BringsLook : (Digest → Option (Option (List ℕ))) → News → Typ
 BringsLook shelved (news.Looked d look) = IsOfDigest d look × IsShelved d (shelved d) look
 BringsLook shelved (news.Fetched l got scan) = ⊥
 BringsLook shelved (news.Finished done) = ⊥
+
+-- ---- what is recorded
+
+-- each text but a failed one is what the world tells at its location, where it tells
+abbrev pub AreTold : (Loc → Option Got) → List Text → Type 0
+AreTold told texts = All (λ (t : Text). IsTold (told t.loc) t.got) texts
+
+-- each look is what is shelved under its digest, where that is told
+abbrev pub AreShelved : (Digest → Option (Option (List ℕ))) → List Look → Type 0
+AreShelved shelved looks = All (λ (l : Look). IsShelved l.digest (shelved l.digest) l.look) looks
 
 -- ---- outcomes
 

@@ -1,7 +1,9 @@
 -- What stands in a table's fields, and what is always true of them.
-use Rattle.std.specs.Prelude.{◌≡◌, ℕ, ◌-◌, ◌≤◌, ◌<◌, ◌^◌, ◌++◌, min, List, length, map, reverse, All, None, Some, vec_len, vec_capacity}
+use Rattle.std.specs.Prelude.{◌≡◌, ℕ, ◌-◌, ◌≤◌, ◌<◌, ◌^◌, ◌++◌, min, List, length, map, reverse, All, Option, None, Some, vec_len, vec_capacity}
 use Rattle.dh_syntax.specs.Expressions.Bridge.{term}
+use Rattle.dh_syntax.specs.declared.locations.Digest.{Digest}
 use Rattle.dh_syntax.specs.declared.locations.Key.{Key}
+use Rattle.dh_syntax.specs.declared.locations.Loc.{Loc}
 use Rattle.dh_syntax.specs.Imports.Machine.{outcome_of}
 use Rattle.dh_syntax.specs.Imports.Replay.{with_bare, keys_found}
 use Rattle.dh_syntax.specs.Imports.Resolver.{is_in}
@@ -9,6 +11,7 @@ use Rattle.dh_syntax.specs.Imports.Walk.{keys_of}
 use Rattle.dh_demand.specs.declared.scans.Scan.{Scan}
 use Rattle.dh_demand.specs.Results.{ask_of}
 use Rattle.dh_demand.specs.Scans.{Fits}
+use Rattle.dh_ports.specs.declared.worlds.Got.{Got}
 use Rattle.dh_table.specs.declared.scratch.Scratch.{Scratch}
 use Rattle.dh_table.specs.declared.steps.Flight.{Flight}
 use Rattle.dh_table.specs.declared.steps.Job.{Job}
@@ -17,10 +20,12 @@ use Rattle.dh_table.specs.declared.steps.Step.TheVariants as steps
 use Rattle.dh_table.specs.declared.tables.Table.TheInside.{Inside}
 use Rattle.dh_table.specs.declared.texts.Entrant.{Entrant}
 use Rattle.dh_table.specs.declared.texts.Text.{Text}
+use Rattle.dh_table.specs.Brought.{AreShelved, AreTold}
 use Rattle.dh_table.specs.Inside.Entering.{AreDistinct, IsListed, keys_in}
 use Rattle.dh_table.specs.Inside.Due.{IsValued}
 use Rattle.dh_table.specs.Inside.Reading.{IsRead}
 use Rattle.dh_table.specs.Inside.Searching.{HasRoom, Knows}
+use Rattle.dh_table.specs.Inside.Sorting.{IsOrder, rank_of_look, rank_of_text}
 use Rattle.dh_table.specs.Shown.{Shown}
 use Rattle.dh_table.specs.States.{IsFrozenLook, IsReplayed, rows_of, state_of, text_of}
 
@@ -75,7 +80,7 @@ pub record AreFit (keys : List Entrant) (flights : List Flight) : Type 0 where
   pub values : All IsValued keys
   pub looks : All (λ (f : Flight). IsFrozenLook keys f.job) flights
 
-pub record IsGood {W : _} (t : Inside W) : Type 0 where
+pub record IsGood (told : Loc → Option Got) (shelved : Digest → Option (Option (List ℕ))) {W : _} (t : Inside W) : Type 0 where
   pub replays : IsReplayed (view_of t)
   pub flights_named : All (λ (f : Flight). f.job.key < length t.keys) t.flights.items
   pub drawn_named : All (λ (j : Job). j.key < length t.keys) t.drawn.items
@@ -90,3 +95,8 @@ pub record IsGood {W : _} (t : Inside W) : Type 0 where
   pub scratch : IsRoomy (length t.keys) t.scratch
   pub explored : Knows (state_of (view_of t)) t.keys t.scratch.explored
   pub room : vec_len t.flights ≤ (view_of t).spare
+  pub text_order : IsOrder (map rank_of_text t.texts.items) t.text_order.numbers.items
+  pub look_order : IsOrder (map rank_of_look t.looks.items) t.look_order.numbers.items
+  -- what is recorded is what the world tells, where that tells
+  pub texts_told : AreTold told t.texts.items
+  pub looks_shelved : AreShelved shelved t.looks.items

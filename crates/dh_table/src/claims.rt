@@ -8,11 +8,13 @@ ghost use Rattle.dh_table.specs.Calls.{Claims};
 ghost use Rattle.dh_table.specs.Inside.Searching.{IsFound, IsJob, IsLoop};
 ghost use Rattle.dh_table.specs.States.{key_named, state_of};
 
+use crate::lookups::{Looks, Texts};
 use crate::loops::least_of_loop;
 use crate::searches::find_open;
 use crate::steps::Job;
 use crate::tables::{Table, Ticket};
 use dh_demand::Next;
+use dh_ports::World;
 use dh_syntax::MOST_KEYS;
 
 /// What a claim answers.
@@ -26,7 +28,7 @@ pub enum Claimed {
     Over,
 }
 
-impl<W> Table<W> {
+impl<W: World> Table<W> {
     /// Whether the root is ready or has a fault.
     pub fn is_over(&self) -> bool
         ensures { IsTrue result ↔ IsSome (root_end (state_of self.now)) }
@@ -50,6 +52,8 @@ impl<W> Table<W> {
             keys,
             texts,
             looks,
+            text_order,
+            look_order,
             flights,
             scratch,
             ..
@@ -57,8 +61,8 @@ impl<W> Table<W> {
         find_open(
             root,
             keys,
-            texts.as_slice(),
-            looks.as_slice(),
+            &Texts::of(texts.as_slice(), text_order),
+            &Looks::of(looks.as_slice(), look_order),
             flights.as_slice(),
             &mut scratch.explored,
             &mut scratch.seen,
@@ -80,13 +84,15 @@ impl<W> Table<W> {
             keys,
             texts,
             looks,
+            text_order,
+            look_order,
             scratch,
             ..
         } = self;
         least_of_loop(
             keys,
-            texts.as_slice(),
-            looks.as_slice(),
+            &Texts::of(texts.as_slice(), text_order),
+            &Looks::of(looks.as_slice(), look_order),
             first,
             &mut scratch.seen,
             &mut scratch.trail,

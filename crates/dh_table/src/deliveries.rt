@@ -2,7 +2,7 @@
 
 ghost use Rattle.std.specs.Prelude.{◌≡◌, ◌+◌, ◌≤◌, ℕ, MatchOption, length};
 ghost use Rattle.dh_syntax.specs.Imports.Machine.{InFlight, IsInTime};
-ghost use Rattle.dh_table.specs.Brought.{BringsText, BringsLook, BringsOutcome, IsOfDigest, IsScanned};
+ghost use Rattle.dh_table.specs.Brought.{BringsText, BringsLook, BringsOutcome, IsOfDigest, IsScanned, IsShelved, IsTold};
 ghost use Rattle.dh_table.specs.Calls.{IsOwnSerial, IsTaken, Takes, StaysDecided, failures, new_failures};
 ghost use Rattle.dh_table.specs.Inside.Recording.{task_named, IsOnly, IsFinish, IsOwnFinish};
 ghost use Rattle.dh_table.specs.States.{state_of, news_of};
@@ -65,9 +65,7 @@ impl<W: World> Table<W> {
             News::Finished(_done) => unreachable!(),
         }
     }
-}
 
-impl<W> Table<W> {
     /// Records what came of a key. It takes no memory.
     pub fn finished(&mut self, ticket: Ticket, news: News) -> Taken
         requires room { length self.old.flights + 1 ≤ self.old.spare }
@@ -117,13 +115,9 @@ impl<W> Table<W> {
         ensures { MatchOption result ((serial : ℕ) → ¬ IsFinish (state_of self.now) item.now serial) (λ f. IsOwnFinish self.now.keys (state_of self.now) item.now f) }
     {
         let flight = flight_at(&self.keys, self.flights.as_slice(), Name::Finish(&item.key))?;
-        let own = is_own_item(
-            &self.keys,
-            self.texts.as_slice(),
-            self.looks.as_slice(),
-            flight.job.key,
-            item,
-        );
+        let texts = self.found_texts();
+        let looks = self.found_looks();
+        let own = is_own_item(&self.keys, &texts, &looks, flight.job.key, item);
         if own { Some(flight) } else { None }
     }
 
@@ -152,6 +146,7 @@ impl<W> Table<W> {
     // The delivery of a text.
     fn take_text(&mut self, ticket: Ticket, loc: Loc, got: Noted, scan: Option<Parsed>) -> Taken
         requires room { length self.old.flights + 1 ≤ self.old.spare }
+        requires told { IsTold (W.told loc) got }
         requires scanned { IsScanned loc got scan }
         ensures takes { Takes ticket (News.Fetched loc got scan) self.old self.new result }
         ensures decided { StaysDecided self.old self.new }
@@ -176,6 +171,7 @@ impl<W> Table<W> {
     fn take_look(&mut self, ticket: Ticket, digest: Digest, look: Seen) -> Taken
         requires room { length self.old.flights + 1 ≤ self.old.spare }
         requires digest { IsOfDigest digest look }
+        requires shelved { IsShelved digest (W.shelved digest) look }
         ensures takes { Takes ticket (News.Looked digest look) self.old self.new result }
         ensures decided { StaysDecided self.old self.new }
         ensures failures { failures (state_of self.new) ≡ failures (state_of self.old) + new_failures (News.Looked digest look) result }

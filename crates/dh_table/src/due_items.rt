@@ -20,14 +20,15 @@ ghost use Rattle.dh_table.specs.Inside.Reading.{noted_of, record_by, IsRead, IsR
 ghost use Rattle.dh_table.specs.Items.{by_fault};
 ghost use Rattle.dh_table.specs.States.{key_named, rows_of, seen_by};
 ghost use Rattle.dh_table.specs.Values.{HasValue, IsFit};
+ghost use Rattle.dh_table.specs.declared.texts.Look.{Look};
 
 use crate::blames::blame_at;
 use crate::entrants::Entrants;
 use crate::entries::Seen;
 use crate::items::{Body, Item};
-use crate::lookups::{look_at, text_at};
+use crate::lookups::{Looks, Texts, look_at, text_at};
 use crate::news::Noted;
-use crate::texts::{Look, Text};
+use crate::texts::Text;
 use dh_demand::{Next, Results, Scan, assemble, next};
 use dh_ports::{Found, Got};
 use dh_syntax::{Blame, Bytes, Key, Loc, Mode, Outcome, ParseFault, Why, copy};
@@ -37,8 +38,8 @@ use std::alloc::{AllocError, Global};
 pub(crate) fn due_item(
     alloc: Global,
     keys: &Entrants,
-    texts: &[Text],
-    looks: &[Look],
+    texts: &Texts<'_>,
+    looks: &Looks<'_>,
     n: u32,
 ) -> Result<Item, AllocError>
     requires inside { n < length keys.now }
@@ -118,7 +119,7 @@ fn bare_item(alloc: Global, key: &Key, outcome: Option<&Outcome>) -> Result<Item
 fn unfrozen_item(
     alloc: Global,
     keys: &Entrants,
-    texts: &[Text],
+    texts: &Texts<'_>,
     key: &Key,
 ) -> Result<Item, AllocError>
     requires unfrozen { key.now.digest ≡ None }
@@ -140,7 +141,7 @@ fn unfrozen_item(
 fn fetched_item(
     alloc: Global,
     keys: &Entrants,
-    texts: &[Text],
+    texts: &Texts<'_>,
     key: &Key,
     as_text: bool,
 ) -> Result<Item, AllocError>

@@ -1,11 +1,11 @@
 //! New keys get their numbers.
 
-ghost use Rattle.std.specs.Prelude.{◌≡◌, ◌≤◌, ◌^◌, ◌++◌, List, length, Some, None, IfOk, OnOk, OnErr, MatchOption};
+ghost use Rattle.std.specs.Prelude.{◌≡◌, ◌<◌, ◌≤◌, ◌^◌, ◌++◌, List, length, Some, None, IfOk, OnOk, OnErr, MatchOption};
 ghost use Rattle.std.specs.Option.{option_copied};
 ghost use Rattle.dh_syntax.specs.Imports.Keys.{bare};
 ghost use Rattle.dh_demand.specs.Results.{number_of};
 ghost use Rattle.dh_table.specs.declared.texts.Entrant.{Entrant};
-ghost use Rattle.dh_table.specs.Inside.Entering.{keys_in, with_key, entered, entered_all, IsEntrant, AreMore, AreEdges};
+ghost use Rattle.dh_table.specs.Inside.Entering.{keys_in, with_key, entered, entered_all, IsEntrant, AreMore, AreEdges, AreFew};
 ghost use Rattle.dh_table.specs.States.{rows_of};
 
 use crate::entrants::Entrants;
@@ -36,6 +36,29 @@ pub(crate) fn enter_all(
         edges.push(Edge { key: number, sane })?;
     }
     Ok(edges)
+}
+
+/// The edges of the imports of a root, whose keys are added in this way; `None` once there are more keys than this.
+pub(crate) fn enter_few(
+    alloc: Global,
+    keys: &mut Entrants,
+    imports: &[Key],
+    most: usize,
+) -> Result<Option<Edges>, AllocError>
+    requires most { most ≤ 2 ^ 32 }
+    requires few { length keys.old ≤ most }
+    ensures { IfOk result (λ r. MatchOption r (most < length (entered_all (keys_in keys.old) imports.now)) (λ es. AreFew keys.old imports.now most keys.new es)) }
+{
+    let mut edges = Many::new(alloc);
+    for key in imports {
+        let number = enter(alloc, keys, key)?;
+        if keys.len() > most {
+            return Ok(None);
+        }
+        let sane = sane(None, &key.loc, key.mode);
+        edges.push(Edge { key: number, sane })?;
+    }
+    Ok(Some(edges))
 }
 
 // The number of a key. It is added with the same key without its digest, where they are new.

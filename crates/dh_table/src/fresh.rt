@@ -9,14 +9,14 @@ ghost use Rattle.dh_table.specs.Inside.Keeping.{AreLeast, IsFreshAt, digest_of_e
 ghost use Rattle.dh_table.specs.Inside.Reading.{record_by};
 ghost use Rattle.dh_table.specs.Inside.Sorting.{Ascends};
 ghost use Rattle.dh_table.specs.States.{rows_of};
+ghost use Rattle.dh_table.specs.declared.texts.Look.{Look};
 
 use crate::entrants::Entrants;
 use crate::entries::Seen;
-use crate::lookups::look_at;
+use crate::lookups::{Looks, look_at};
 use crate::orders::is_at_most;
 use crate::probes::DigestProbe;
 use crate::sorting::{Probe, place_in};
-use crate::texts::Look;
 use dh_demand::{Marks, Results};
 use dh_syntax::{Digest, Outcome};
 use std::alloc::{AllocError, Global};
@@ -25,7 +25,7 @@ use std::alloc::{AllocError, Global};
 pub(crate) fn least_fresh(
     alloc: Global,
     keys: &Entrants,
-    looks: &[Look],
+    looks: &Looks<'_>,
     marks: &Marks,
 ) -> Result<Vec<u32>, AllocError>
     requires listed { All (IsListed (rows_of keys.now)) keys.now }
@@ -45,7 +45,7 @@ pub(crate) fn least_fresh(
 }
 
 // The digest of a key, where it is fresh.
-fn fresh_digest(keys: &Entrants, looks: &[Look], marks: &Marks, n: u32) -> Option<Digest>
+fn fresh_digest(keys: &Entrants, looks: &Looks<'_>, marks: &Marks, n: u32) -> Option<Digest>
     requires inside { n < length keys.now }
     requires marks { length keys.now ≤ length marks.now }
     ensures { MatchOption result ((d : Digest) → ¬ IsFreshAt keys.now looks.now marks.now n d) (λ d. IsFreshAt keys.now looks.now marks.now n d) }
@@ -67,7 +67,7 @@ fn fresh_digest(keys: &Entrants, looks: &[Look], marks: &Marks, n: u32) -> Optio
 }
 
 // Whether no good entry was found under a digest.
-fn lacks_entry(looks: &[Look], digest: &Digest) -> bool
+fn lacks_entry(looks: &Looks<'_>, digest: &Digest) -> bool
     ensures { Decides result (HasNoEntry (record_by [] looks.now) digest.now) }
 {
     match look_at(looks, digest) {

@@ -15,11 +15,11 @@ use crate::kept::entries_of;
 use crate::tables::Table;
 use crate::visited::mark_visited;
 use dh_demand::{Marks, Next};
-use dh_ports::Cache;
+use dh_ports::{Cache, World};
 use dh_syntax::{MOST_KEYS, Many};
 use std::alloc::{AllocError, Global};
 
-impl<W> Table<W> {
+impl<W: World> Table<W> {
     /// The cache entries that the run keeps, by ascending digest: where the root is ready, those of the keys with digests on its
     /// way that were not found in the cache, else none.
     pub fn keeps(&self, alloc: Global) -> Result<Cache, AllocError>
@@ -42,10 +42,12 @@ impl<W> Table<W> {
         let len = self.keys.len();
         let mut marks = Marks::of(vec![in alloc; false; len]?);
         let mut seen = Marks::of(vec![in alloc; false; len]?);
-        let texts = self.texts.as_slice();
-        let looks = self.looks.as_slice();
-        mark_visited(&self.root, &self.keys, texts, looks, &mut marks, &mut seen);
-        let found = least_fresh(alloc, &self.keys, looks, &marks)?;
+        let texts = self.found_texts();
+        let looks = self.found_looks();
+        mark_visited(
+            &self.root, &self.keys, &texts, &looks, &mut marks, &mut seen,
+        );
+        let found = least_fresh(alloc, &self.keys, &looks, &marks)?;
         entries_of(alloc, &self.keys, found.as_slice())
     }
 }

@@ -11,9 +11,9 @@ ghost use Rattle.dh_table.specs.Inside.Searching.{IsStuck, IsNextStuck, IsLoop};
 ghost use Rattle.dh_table.specs.States.{rows_of, key_named};
 
 use crate::entrants::Entrants;
+use crate::lookups::{Looks, Texts};
 use crate::orders::is_at_most;
 use crate::tables::put;
-use crate::texts::{Look, Text};
 use crate::visits::{Reach, look_ahead};
 use dh_demand::Marks;
 use dh_terms::is_same_key;
@@ -22,8 +22,8 @@ use dh_terms::is_same_key;
 /// It takes no memory.
 pub(crate) fn least_of_loop(
     keys: &Entrants,
-    texts: &[Text],
-    looks: &[Look],
+    texts: &Texts<'_>,
+    looks: &Looks<'_>,
     first: u32,
     marks: &mut Marks,
     trail: &mut Vec<u32>,
@@ -51,7 +51,7 @@ pub(crate) fn least_of_loop(
 }
 
 // The blocking key of a key that waits.
-fn blocking(keys: &Entrants, texts: &[Text], looks: &[Look], n: u32) -> u32
+fn blocking(keys: &Entrants, texts: &Texts<'_>, looks: &Looks<'_>, n: u32) -> u32
     requires inside { n < length keys.now }
     requires listed { All (IsListed (rows_of keys.now)) keys.now }
     requires read { All (IsRead (rows_of keys.now)) texts.now }

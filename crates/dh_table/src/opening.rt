@@ -6,11 +6,13 @@ ghost use Rattle.dh_syntax.specs.Imports.Machine.{opening};
 ghost use Rattle.dh_syntax.specs.Imports.Replay.{has_too_many};
 ghost use Rattle.dh_table.specs.Calls.{IsOpened};
 
-use crate::entering::enter_all;
+use crate::entering::enter_few;
 use crate::entrants::Entrants;
 use crate::scratch::Scratch;
+use crate::sorting::Order;
 use crate::tables::Table;
 use dh_demand::{Marks, Scan, import_keys};
+use dh_ports::World;
 use dh_syntax::{Expr, MOST_KEYS};
 use std::alloc::{AllocError, Global};
 use std::marker::PhantomData;
@@ -33,7 +35,7 @@ impl From<AllocError> for OpenFault {
     }
 }
 
-impl<W> Table<W> {
+impl<W: World> Table<W> {
     /// The table of a run of this root, before its first step.
     pub fn open(alloc: Global, root: Expr) -> Result<Table<W>, OpenFault>
         ensures opened { IfOk result (λ t. IsOpened (term root) t) }
@@ -42,18 +44,19 @@ impl<W> Table<W> {
     {
         let imports = import_keys(alloc, &root, None)?;
         let mut keys = Entrants::new(alloc);
-        let edges = enter_all(alloc, &mut keys, imports.as_slice(), None)?;
-        let count = keys.len();
-        if count > MOST_KEYS {
+        let entered = enter_few(alloc, &mut keys, imports.as_slice(), MOST_KEYS)?;
+        let Some(edges) = entered else {
             return Err(OpenFault::TooMany);
-        }
-        let scratch = Scratch::for_keys(alloc, count)?;
+        };
+        let scratch = Scratch::for_keys(alloc, keys.len())?;
         let root = Scan { expr: root, edges };
         Ok(Table {
             root,
             keys,
             texts: Vec::new(alloc),
             looks: Vec::new(alloc),
+            text_order: Order::new(alloc),
+            look_order: Order::new(alloc),
             decided: Vec::new(alloc),
             limited: Vec::new(alloc),
             flights: Vec::new(alloc),

@@ -97,6 +97,13 @@ pub(crate) fn is_digest_before(d: &Option<Digest>, e: &Option<Digest>) -> bool
     }
 }
 
+/// Whether the bytes of a digest come before those of another.
+pub(crate) fn is_bytes_before(d: &Digest, e: &Digest) -> bool
+    ensures { result ≡ before d.now.0 e.now.0 }
+{
+    d.0.cmp(&e.0).is_lt()
+}
+
 fn is_same_digest(d: &Option<Digest>, e: &Option<Digest>) -> bool
     ensures { result ≡ bytes_eq (digest_rank d.now) (digest_rank e.now) }
 {
@@ -171,7 +178,8 @@ fn is_path_before(u: &Url, v: &Url) -> bool
         || is_same_query(&u.query, &v.query) && are_before(u.comps.as_slice(), v.comps.as_slice())
 }
 
-fn is_loc_before(a: &Loc, b: &Loc) -> bool
+/// Whether a location comes before another, by their parts.
+pub(crate) fn is_loc_before(a: &Loc, b: &Loc) -> bool
     ensures { result ≡ texts_before (loc_rank a.now) (loc_rank b.now) }
 {
     match a {

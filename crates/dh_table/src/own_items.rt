@@ -32,9 +32,9 @@ use crate::equality::{
     is_same_origin,
 };
 use crate::items::{Body, Item};
-use crate::lookups::{look_at, text_at};
+use crate::lookups::{Looks, Texts, look_at, text_at};
 use crate::news::Noted;
-use crate::texts::{Look, Text};
+use crate::texts::Text;
 use dh_demand::{Edge, Next, Results, Scan, is_assembled, next};
 use dh_ports::Got;
 use dh_syntax::{Bytes, Digest, Expr, Key, Loc, Mode, Origin, Outcome, Why};
@@ -43,8 +43,8 @@ use dh_terms::{is_same_expr, is_same_loc};
 /// Whether the key of this number is due, on this item. It takes no memory.
 pub(crate) fn is_own_item(
     keys: &Entrants,
-    texts: &[Text],
-    looks: &[Look],
+    texts: &Texts<'_>,
+    looks: &Looks<'_>,
     n: u32,
     item: &Item,
 ) -> bool
@@ -63,7 +63,7 @@ pub(crate) fn is_own_item(
 // The same of a key with this digest, by the number of the same key without it.
 fn is_frozen_item(
     keys: &Entrants,
-    looks: &[Look],
+    looks: &Looks<'_>,
     digest: Digest,
     unfrozen: u32,
     item: &Item,
@@ -82,7 +82,7 @@ fn is_frozen_item(
 }
 
 // The same of a key without digest.
-fn is_unfrozen_item(keys: &Entrants, texts: &[Text], key: &Key, item: &Item) -> bool
+fn is_unfrozen_item(keys: &Entrants, texts: &Texts<'_>, key: &Key, item: &Item) -> bool
     requires { All (IsRead (rows_of keys.now)) texts.now }
     ensures { (looks : List Look) → key.now.digest ≡ None →
         result ≡ are_due_on_one (of_plan (ask_of (rows_of keys.now)) key.now (plan_mode (record_by texts.now looks) key.now key.now.mode)) (stage_of_item item.now) }
@@ -105,7 +105,7 @@ fn is_unfrozen_item(keys: &Entrants, texts: &[Text], key: &Key, item: &Item) -> 
 }
 
 // The same of a key whose text is taken as it is.
-fn is_text_item(texts: &[Text], key: &Key, item: &Item) -> bool
+fn is_text_item(texts: &Texts<'_>, key: &Key, item: &Item) -> bool
     ensures { (ask : Ask) → result ≡ are_due_on_one (of_plan ask key.now (plan_text key.now true (lookup loc_eq (reverse (map text_of texts.now)) key.now.loc))) (stage_of_item item.now) }
 {
     match text_at(texts, &key.loc) {
@@ -123,7 +123,7 @@ fn is_text_item(texts: &[Text], key: &Key, item: &Item) -> bool
 }
 
 // The same of a key whose text is read as code.
-fn is_code_item(keys: &Entrants, texts: &[Text], key: &Key, item: &Item) -> bool
+fn is_code_item(keys: &Entrants, texts: &Texts<'_>, key: &Key, item: &Item) -> bool
     requires { All (IsRead (rows_of keys.now)) texts.now }
     ensures { text_key (Some key.now.loc) ≡ Some key.now →
         result ≡ are_due_on_one (of_plan (ask_of (rows_of keys.now)) key.now (plan_text key.now false (lookup loc_eq (reverse (map text_of texts.now)) key.now.loc))) (stage_of_item item.now) }

@@ -13,12 +13,13 @@ ghost use Rattle.dh_demand.specs.Scans.{text_key};
 ghost use Rattle.dh_table.specs.Inside.Entering.{IsListed};
 ghost use Rattle.dh_table.specs.Inside.Reading.{noted_of, record_by, IsReadAt, IsRead, IsPlan};
 ghost use Rattle.dh_table.specs.States.{rows_of, look_of, key_named};
+ghost use Rattle.dh_table.specs.declared.texts.Look.{Look};
 
 use crate::entrants::Entrants;
 use crate::entries::Seen;
-use crate::lookups::{look_at, text_at};
+use crate::lookups::{Looks, Texts, look_at, text_at};
 use crate::news::Noted;
-use crate::texts::{Look, Text};
+use crate::texts::Text;
 use dh_demand::Scan;
 use dh_ports::Got;
 use dh_syntax::{Digest, Key, Loc, Mode};
@@ -39,7 +40,7 @@ pub(crate) enum Plan<'a> {
 }
 
 /// What is recorded for the key of this number.
-pub(crate) fn plan_of<'a>(keys: &Entrants, texts: &'a [Text], looks: &[Look], n: u32) -> Plan<'a>
+pub(crate) fn plan_of<'a>(keys: &Entrants, texts: &Texts<'a>, looks: &Looks<'_>, n: u32) -> Plan<'a>
     requires inside { n < length keys.now }
     requires listed { All (IsListed (rows_of keys.now)) keys.now }
     requires read { All (IsRead (rows_of keys.now)) texts.now }
@@ -53,7 +54,7 @@ pub(crate) fn plan_of<'a>(keys: &Entrants, texts: &'a [Text], looks: &[Look], n:
 }
 
 // The plan of a key with this digest, by the number of the same key without it.
-fn plan_frozen<'a>(looks: &[Look], digest: Digest, unfrozen: u32) -> Plan<'a>
+fn plan_frozen<'a>(looks: &Looks<'_>, digest: Digest, unfrozen: u32) -> Plan<'a>
     ensures { (rows : List Row) (k : Key) → k.digest ≡ Some digest → number_of rows (bare k) ≡ Some unfrozen →
         IsPlan rows k (plan_look k digest (lookup digest_eq (reverse (map look_of looks.now)) digest)) result }
 {
@@ -67,7 +68,7 @@ fn plan_frozen<'a>(looks: &[Look], digest: Digest, unfrozen: u32) -> Plan<'a>
 }
 
 // The plan of a key without digest.
-fn plan_unfrozen<'a>(texts: &'a [Text], key: &Key) -> Plan<'a>
+fn plan_unfrozen<'a>(texts: &Texts<'a>, key: &Key) -> Plan<'a>
     ensures { (rows : List Row) (looks : List Look) → key.now.digest ≡ None → All (IsRead rows) texts.now →
         IsPlan rows key.now (plan_mode (record_by texts.now looks) key.now key.now.mode) result }
 {

@@ -1,9 +1,9 @@
 //! What is looked for among the things of a table.
 
-use crate::orders::{is_digest_before, is_key_before};
+use crate::orders::{is_bytes_before, is_digest_before, is_key_before, is_loc_before};
 use crate::sorting::Probe;
-use crate::texts::Entrant;
-use dh_syntax::{Digest, Key};
+use crate::texts::{Entrant, Look, Text};
+use dh_syntax::{Digest, Key, Loc};
 
 /// A key among keys.
 #[derive(Clone, Copy)]
@@ -51,5 +51,54 @@ impl<'a> Probe for DigestProbe<'a> {
 
     fn is_before(&self, n: u32) -> bool {
         is_digest_before(self.digest, &self.rows[n as usize].key.digest)
+    }
+}
+
+/// A location among those of texts.
+#[derive(Clone, Copy)]
+pub(crate) struct LocProbe<'a> {
+    pub rows: &'a [Text],
+    pub loc: &'a Loc,
+}
+
+impl<'a> Probe for LocProbe<'a> {
+    ghost use Rattle.std.specs.Prelude.{map};
+    ghost use Rattle.dh_syntax.specs.Imports.Keys.{loc_rank};
+    ghost use Rattle.dh_table.specs.Inside.Sorting.{rank_of_text};
+
+    ghost ranks = { λ p. map rank_of_text p.rows.now };
+
+    ghost sought = { λ p. loc_rank p.loc.now };
+
+    fn is_behind(&self, n: u32) -> bool {
+        is_loc_before(&self.rows[n as usize].loc, self.loc)
+    }
+
+    fn is_before(&self, n: u32) -> bool {
+        is_loc_before(self.loc, &self.rows[n as usize].loc)
+    }
+}
+
+/// A digest among those of looks.
+#[derive(Clone, Copy)]
+pub(crate) struct LookProbe<'a> {
+    pub rows: &'a [Look],
+    pub digest: &'a Digest,
+}
+
+impl<'a> Probe for LookProbe<'a> {
+    ghost use Rattle.std.specs.Prelude.{map, ◌∷◌, []};
+    ghost use Rattle.dh_table.specs.Inside.Sorting.{rank_of_look};
+
+    ghost ranks = { λ p. map rank_of_look p.rows.now };
+
+    ghost sought = { λ p. p.digest.now.0 ∷ [] };
+
+    fn is_behind(&self, n: u32) -> bool {
+        is_bytes_before(&self.rows[n as usize].digest, self.digest)
+    }
+
+    fn is_before(&self, n: u32) -> bool {
+        is_bytes_before(self.digest, &self.rows[n as usize].digest)
     }
 }

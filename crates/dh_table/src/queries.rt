@@ -5,11 +5,13 @@ ghost use Rattle.std.specs.Option.{option_copied, option_map};
 ghost use Rattle.dh_syntax.specs.Imports.Machine.{Task, IsOpen, outcome_of};
 ghost use Rattle.dh_syntax.specs.Imports.Outcomes.{plain};
 ghost use Rattle.dh_syntax.specs.Imports.Replay.{distinct, keys, root_end};
+ghost use Rattle.dh_table.specs.Brought.{AreShelved, AreTold};
 ghost use Rattle.dh_table.specs.Calls.{IsIdle};
 ghost use Rattle.dh_table.specs.States.{state_of};
 
 use crate::tables::Table;
 use dh_demand::Results;
+use dh_ports::World;
 use dh_syntax::{Key, Outcome};
 
 // For how many more elements there is room.
@@ -19,7 +21,15 @@ fn room_of<T>(v: &Vec<T>) -> usize
     v.capacity().saturating_sub(v.len())
 }
 
-impl<W> Table<W> {
+impl<W: World> Table<W> {
+    /// Each recorded text but a failed one, and each recorded look, is what the world tells, where that tells.
+    pub fn tells(&self)
+        ensures texts { AreTold W.told self.now.texts }
+        ensures looks { AreShelved W.shelved self.now.looks }
+    {
+        let _texts = &self.texts;
+    }
+
     /// For how many more steps there is room. It takes no memory.
     pub fn spare(&self) -> usize
         ensures { result ≡ self.now.spare }

@@ -3,7 +3,7 @@
 ghost use Rattle.std.specs.Prelude.{◌≡◌, ◌+◌, ◌<◌, ◌≤◌, ◌^◌, ◌++◌, ◌∷◌, [], if◌then◌else◌, Some, IfOk, OnOk, OnErr, MatchOption, length, vec_len, vec_capacity};
 ghost use Rattle.dh_syntax.specs.Imports.Machine.{IsInTime};
 ghost use Rattle.dh_syntax.specs.Imports.Records.{IsGood};
-ghost use Rattle.dh_table.specs.Brought.{IsOfDigest, IsScanned};
+ghost use Rattle.dh_table.specs.Brought.{IsOfDigest, IsScanned, IsShelved, IsTold};
 ghost use Rattle.dh_table.specs.Calls.{Records, StaysDecided};
 ghost use Rattle.dh_table.specs.Inside.Entering.{keys_in, entered_all, AreMore, AreEdges};
 ghost use Rattle.dh_table.specs.Inside.Recording.{imports_of, read_of};
@@ -17,27 +17,36 @@ use crate::entries::Seen;
 use crate::items::Done;
 use crate::news::{News, Noted, Parsed};
 use crate::passing::is_open_value;
+use crate::probes::{LocProbe, LookProbe};
 use crate::scratch::Scratch;
+use crate::sorting::Order;
 use crate::steps::Step;
 use crate::tables::{Table, put};
 use crate::texts::{Look, Text};
 use dh_demand::{Edges, Scan};
+use dh_ports::World;
 use dh_syntax::{Digest, Key, Loc, ParseFault};
 use std::alloc::AllocError;
 
-impl<W> Table<W> {
+impl<W: World> Table<W> {
     // The step that records a look. Where memory is wanting, the table stays as it was, and the look is handed back.
     pub(crate) fn land_look(&mut self, serial: u64, digest: Digest, look: Seen) -> Option<News>
         requires digest { IsOfDigest digest look }
+        requires shelved { IsShelved digest (W.shelved digest) look }
         requires in_time { IsInTime (state_of self.old) serial (news_of (News.Looked digest look)) }
         requires room { length self.old.flights + 1 ≤ self.old.spare }
         ensures lands { MatchOption result (Records serial (news_of (News.Looked digest look)) self.old self.new) (λ n. (n ≡ News.Looked digest look) × (self.new ≡ self.old)) }
         ensures decided { StaysDecided self.old self.new }
     {
-        if self.looks.reserve(1).is_err() {
+        let Ok(number) = next_number(&mut self.looks, &mut self.look_order) else {
             return Some(News::Looked { digest, look });
-        }
+        };
         tell_good(&digest, &look);
+        let probe = LookProbe {
+            rows: self.looks.as_slice(),
+            digest: &digest,
+        };
+        self.look_order.insert(&probe, number);
         put(&mut self.looks, Look { digest, look });
         self.flights.retain(|flight| flight.serial != serial);
         put(&mut self.history, Step::Looked { serial });
@@ -52,6 +61,7 @@ impl<W> Table<W> {
         got: Noted,
         scan: Option<Parsed>,
     ) -> Option<News>
+        requires told { IsTold (W.told loc) got }
         requires scanned { IsScanned loc got scan }
         requires in_time { IsInTime (state_of self.old) serial (news_of (News.Fetched loc got scan)) }
         requires room { length self.old.flights + 1 ≤ self.old.spare }
@@ -61,13 +71,16 @@ impl<W> Table<W> {
         let Table {
             keys,
             texts,
+            text_order,
             scratch,
             flights,
             history,
             ..
         } = self;
-        match room_for(keys, texts, scratch, &loc, imports_of(&scan)) {
-            Ok(edges) => {
+        match room_for(keys, texts, text_order, scratch, &loc, imports_of(&scan)) {
+            Ok((edges, number)) => {
+                let rows = texts.as_slice();
+                text_order.insert(&LocProbe { rows, loc: &loc }, number);
                 let read = read_of(scan, edges);
                 put(texts, Text { loc, got, read });
                 flights.retain(|flight| flight.serial != serial);
@@ -145,20 +158,42 @@ fn read_of(scan: Option<Parsed>, edges: Edges) -> Option<Result<Scan, ParseFault
     }
 }
 
-// Room for one more text at a location, and numbers for the keys of its imports. Where memory is wanting, all but the room is
-// as it was.
+// The number of one more thing, and room for it.
+fn next_number<T>(rows: &mut Vec<T>, order: &mut Order) -> Result<u32, AllocError>
+    ensures items { rows.new.items ≡ rows.old.items }
+    ensures len { vec_len rows.new ≡ vec_len rows.old }
+    ensures numbers { order.new.numbers.items ≡ order.old.numbers.items }
+    ensures number { IfOk result (λ n. n ≡ length rows.new.items) }
+    ensures room { OnOk result (vec_len rows.new < vec_capacity rows.new) }
+    ensures place { OnOk result (vec_len order.new.numbers < vec_capacity order.new.numbers) }
+{
+    rows.reserve(1)?;
+    order.reserve()?;
+    let count = rows.len();
+    if count > u32::MAX as usize {
+        return Err(AllocError);
+    }
+    Ok(count as u32)
+}
+
+// Room for one more text at a location, with its number, and numbers for the keys of its imports. Where memory is wanting, all
+// but the room is as it was.
 fn room_for(
     keys: &mut Entrants,
     texts: &mut Vec<Text>,
+    order: &mut Order,
     scratch: &mut Scratch,
     loc: &Loc,
     imports: &[Key],
-) -> Result<Edges, AllocError>
+) -> Result<(Edges, u32), AllocError>
     requires few { length keys.old ≤ 2 ^ 32 }
     requires scratch { IsRoomy (length keys.old) scratch.old }
     ensures few { length keys.new ≤ 2 ^ 32 }
     ensures entered { OnOk result (AreMore keys.old (entered_all (keys_in keys.old) imports.now) keys.new) }
-    ensures edges { IfOk result (λ es. AreEdges (Some loc.now) (rows_of keys.new) imports.now es) }
+    ensures edges { IfOk result (λ r. AreEdges (Some loc.now) (rows_of keys.new) imports.now r.0) }
+    ensures number { IfOk result (λ r. r.1 ≡ length texts.new.items) }
+    ensures place { OnOk result (vec_len order.new.numbers < vec_capacity order.new.numbers) }
+    ensures numbers { order.new.numbers.items ≡ order.old.numbers.items }
     ensures same { OnErr result (keys.new ≡ keys.old) }
     ensures items { texts.new.items ≡ texts.old.items }
     ensures len { vec_len texts.new ≡ vec_len texts.old }
@@ -166,12 +201,12 @@ fn room_for(
     ensures scratch { IsRoomy (length keys.new) scratch.new }
     ensures known { IsSameKnown scratch.old.explored scratch.new.explored }
 {
-    texts.reserve(1)?;
+    let number = next_number(texts, order)?;
     let alloc = *texts.allocator();
     let count = keys.len();
     let entered = match enter_all(alloc, keys, imports, Some(loc)) {
         Ok(edges) => match scratch.grow(keys.len()) {
-            Ok(()) => Ok(edges),
+            Ok(()) => Ok((edges, number)),
             Err(fault) => Err(fault),
         },
         Err(fault) => Err(fault),

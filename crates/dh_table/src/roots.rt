@@ -8,6 +8,7 @@ ghost use Rattle.dh_table.specs.States.{state_of};
 use crate::blames::blame_at;
 use crate::tables::Table;
 use dh_demand::{Next, assemble};
+use dh_ports::World;
 use dh_syntax::{Blame, Expr, MOST_KEYS, Why};
 use std::alloc::{AllocError, Global};
 
@@ -29,7 +30,7 @@ impl Drop for Ended {
     }
 }
 
-impl<W> Table<W> {
+impl<W: World> Table<W> {
     /// How the root ends, once that is decided: with its values, with the fault that decides it, or with `TooMany`.
     pub fn root(&self, alloc: Global) -> Result<Ended, AllocError>
         requires { IsSome (root_end (state_of self.now)) }

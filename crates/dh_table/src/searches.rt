@@ -9,12 +9,14 @@ ghost use Rattle.dh_table.specs.Inside.Entering.{IsListed};
 ghost use Rattle.dh_table.specs.Inside.Reading.{IsRead};
 ghost use Rattle.dh_table.specs.Inside.Searching.{Stands, is_set, HasRoom, IsExplored, IsExploredBy, IsFound, IsJob, IsPassed, Knows, unseen};
 ghost use Rattle.dh_table.specs.States.{rows_of};
+ghost use Rattle.dh_table.specs.declared.texts.Look.{Look};
+ghost use Rattle.dh_table.specs.declared.texts.Text.{Text};
 
 use crate::entrants::Entrants;
 use crate::explored::Explored;
+use crate::lookups::{Looks, Texts};
 use crate::sameness::flies;
 use crate::steps::{Flight, Job};
-use crate::texts::{Look, Text};
 use crate::visits::{Reach, visit};
 use dh_demand::{Marks, Scan, wanted};
 
@@ -33,8 +35,8 @@ enum Pass {
 pub(crate) fn find_open(
     root: &Scan,
     keys: &Entrants,
-    texts: &[Text],
-    looks: &[Look],
+    texts: &Texts<'_>,
+    looks: &Looks<'_>,
     flights: &[Flight],
     explored: &mut Explored,
     seen: &mut Marks,
@@ -97,8 +99,8 @@ fn pass_over(waiting: &Marks, seen: &mut Marks, keys: usize)
 // Goes over the keys once, and sees each marked one that was not seen.
 fn go_over(
     keys: &Entrants,
-    texts: &[Text],
-    looks: &[Look],
+    texts: &Texts<'_>,
+    looks: &Looks<'_>,
     flights: &[Flight],
     explored: &mut Explored,
     seen: &mut Marks,
@@ -132,8 +134,8 @@ fn go_over(
 // Sees a key: marks the keys to which it leads. Answers its task where that is due and not in flight.
 fn see(
     keys: &Entrants,
-    texts: &[Text],
-    looks: &[Look],
+    texts: &Texts<'_>,
+    looks: &Looks<'_>,
     flights: &[Flight],
     n: u32,
     explored: &mut Explored,

@@ -8,12 +8,15 @@ ghost use Rattle.dh_demand.specs.Nexts.{IsNext, IsInside};
 ghost use Rattle.dh_table.specs.States.{IsFrozenLook, rows_of, key_named, state_of, task_of, news_of};
 
 use crate::entrants::Entrants;
+use crate::lookups::{Looks, Texts};
 use crate::news::News;
 use crate::sameness::job_of;
 use crate::scratch::Scratch;
+use crate::sorting::Order;
 use crate::steps::{Flight, Job, Kind, Step};
 use crate::texts::{Look, Text};
 use dh_demand::{Next, Results, Scan, next};
+use dh_ports::World;
 use dh_syntax::{Key, Outcome};
 use std::alloc::{AllocError, Global};
 use std::marker::{Model, PhantomData};
@@ -25,13 +28,16 @@ pub struct Ticket {
     kind: Kind,
 }
 
-/// The table of one run.
+/// The table of one run. What it records is what the world tells, where that tells.
 #[derive(Debug, Drop)]
-pub struct Table<W> {
+pub struct Table<W: World> {
     pub(crate) root: Scan,
     pub(crate) keys: Entrants,
     pub(crate) texts: Vec<Text>,
     pub(crate) looks: Vec<Look>,
+    // the numbers of the texts and of the looks, in the order of their locations and digests
+    pub(crate) text_order: Order,
+    pub(crate) look_order: Order,
     // the numbers of the decided keys, in the order of their steps
     pub(crate) decided: Vec<u32>,
     // of these, the numbers of those that were decided by a limit
@@ -45,7 +51,7 @@ pub struct Table<W> {
     pub(crate) world: PhantomData<W>,
 }
 
-impl<W> Model for Table<W> {
+impl<W: World> Model for Table<W> {
     ghost use Rattle.dh_table.specs.Shown.{Shown};
     ghost use Rattle.dh_syntax.specs.contracts.expressions.Expr as e;
     ghost use Rattle.std.specs.Coded.{codes};
@@ -58,7 +64,7 @@ impl<W> Model for Table<W> {
 
     ghost view = { λ t. view_of t };
 
-    ghost invariant = { λ t. IsGood t };
+    ghost invariant = { λ t. IsGood W.told W.shelved t };
 }
 
 /// Adds an element where there is room.
@@ -80,7 +86,7 @@ impl Ticket {
     }
 }
 
-impl<W> Table<W> {
+impl<W: World> Table<W> {
     /// The steps so far.
     pub fn history(&self) -> &[Step]
         ensures { result.now ≡ self.now.history }
@@ -110,6 +116,20 @@ impl<W> Table<W> {
         self.decided.reserve(n)?;
         self.limited.reserve(n)?;
         Ok(())
+    }
+
+    // The recorded texts, with their order.
+    pub(crate) fn found_texts(&self) -> Texts<'_>
+        ensures { result ≡ self.now.texts }
+    {
+        Texts::of(self.texts.as_slice(), &self.text_order)
+    }
+
+    // The recorded looks, with their order.
+    pub(crate) fn found_looks(&self) -> Looks<'_>
+        ensures { result ≡ self.now.looks }
+    {
+        Looks::of(self.looks.as_slice(), &self.look_order)
     }
 
     // What the walk of the root does next.
@@ -197,7 +217,7 @@ impl<W> Table<W> {
     }
 }
 
-impl<W> Results for Table<W> {
+impl<W: World> Results for Table<W> {
     ghost use Rattle.dh_table.specs.States.{rows_of};
 
     ghost rows = { λ t. rows_of t.keys };

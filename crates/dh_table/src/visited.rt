@@ -15,16 +15,16 @@ ghost use Rattle.dh_table.specs.Inside.Searching.{is_set, unseen};
 ghost use Rattle.dh_table.specs.States.{key_named, rows_of};
 
 use crate::entrants::Entrants;
+use crate::lookups::{Looks, Texts};
 use crate::plans::{Plan, plan_of};
-use crate::texts::{Look, Text};
 use dh_demand::{Marks, Results, Scan, asked};
 
 /// Marks the keys that are asked on the way from the root.
 pub(crate) fn mark_visited(
     root: &Scan,
     keys: &Entrants,
-    texts: &[Text],
-    looks: &[Look],
+    texts: &Texts<'_>,
+    looks: &Looks<'_>,
     marks: &mut Marks,
     seen: &mut Marks,
 )
@@ -50,8 +50,8 @@ pub(crate) fn mark_visited(
 // Goes over the keys once, and marks what each marked one asks that was not seen. Answers whether there was one.
 fn visit_all(
     keys: &Entrants,
-    texts: &[Text],
-    looks: &[Look],
+    texts: &Texts<'_>,
+    looks: &Looks<'_>,
     marks: &mut Marks,
     seen: &mut Marks,
 ) -> bool
@@ -78,7 +78,14 @@ fn visit_all(
 }
 
 // Sees a key: marks the keys that it asks.
-fn see(keys: &Entrants, texts: &[Text], looks: &[Look], n: u32, marks: &mut Marks, seen: &mut Marks)
+fn see(
+    keys: &Entrants,
+    texts: &Texts<'_>,
+    looks: &Looks<'_>,
+    n: u32,
+    marks: &mut Marks,
+    seen: &mut Marks,
+)
     requires inside { n < length keys.now }
     requires listed { All (IsListed (rows_of keys.now)) keys.now }
     requires read { All (IsRead (rows_of keys.now)) texts.now }

@@ -12,9 +12,9 @@ ghost use Rattle.dh_table.specs.Inside.Reading.{record_by, IsRead, IsNumbered, I
 ghost use Rattle.dh_table.specs.States.{rows_of, key_named};
 
 use crate::entrants::Entrants;
+use crate::lookups::{Looks, Texts};
 use crate::plans::{Plan, plan_of};
 use crate::steps::Kind;
-use crate::texts::{Look, Text};
 use dh_demand::{Marks, Next, Results, next, wanted};
 
 /// What is left to do for a key.
@@ -29,8 +29,8 @@ pub(crate) enum Reach {
 /// What is left to do for the key of this number. Marks the keys to which it leads.
 pub(crate) fn visit(
     keys: &Entrants,
-    texts: &[Text],
-    looks: &[Look],
+    texts: &Texts<'_>,
+    looks: &Looks<'_>,
     n: u32,
     marks: &mut Marks,
 ) -> Reach
@@ -48,7 +48,7 @@ pub(crate) fn visit(
 }
 
 /// What is left to do for the key of this number.
-pub(crate) fn look_ahead(keys: &Entrants, texts: &[Text], looks: &[Look], n: u32) -> Reach
+pub(crate) fn look_ahead(keys: &Entrants, texts: &Texts<'_>, looks: &Looks<'_>, n: u32) -> Reach
     requires inside { n < length keys.now }
     requires listed { All (IsListed (rows_of keys.now)) keys.now }
     requires read { All (IsRead (rows_of keys.now)) texts.now }

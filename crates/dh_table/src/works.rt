@@ -11,11 +11,12 @@ use crate::sameness::job_of;
 use crate::steps::{Job, Kind};
 use crate::tables::{Table, Ticket};
 use dh_demand::Results;
+use dh_ports::World;
 use dh_syntax::{Digest, Loc};
 use std::alloc::{AllocError, Global};
 
 /// What a task needs.
-#[derive(Debug)]
+#[derive(Debug, Drop)]
 pub enum Work {
     /// A text is to be fetched from here.
     Fetch(Loc),
@@ -25,18 +26,7 @@ pub enum Work {
     Finish(Item),
 }
 
-// Written by hand: a derived one puts every arm inline wherever a value may die.
-impl Drop for Work {
-    fn drop(self) {
-        match self {
-            Work::Fetch(_) => {}
-            Work::Look(_) => {}
-            Work::Finish(_) => {}
-        }
-    }
-}
-
-impl<W> Table<W> {
+impl<W: World> Table<W> {
     /// What the task of a ticket needs: a location, a digest, or a key with its item.
     pub fn work(&self, alloc: Global, ticket: &Ticket) -> Result<Work, AllocError>
         requires { (t : Task) × InFlight (state_of self.now) ticket.now.serial t }
@@ -52,13 +42,12 @@ impl<W> Table<W> {
                 };
                 Ok(Work::Look(digest))
             }
-            Kind::Finish => Ok(Work::Finish(due_item(
-                alloc,
-                &self.keys,
-                self.texts.as_slice(),
-                self.looks.as_slice(),
-                job.key,
-            )?)),
+            Kind::Finish => {
+                let texts = self.found_texts();
+                let looks = self.found_looks();
+                let item = due_item(alloc, &self.keys, &texts, &looks, job.key)?;
+                Ok(Work::Finish(item))
+            }
         }
     }
     // The job of a task in flight.

@@ -1,5 +1,5 @@
 -- How keys get their numbers.
-use Rattle.std.specs.Prelude.{◌≡◌, ℕ, ◌++◌, if◌then◌else◌, false, List, [], ◌∷◌, map, Option, Some, None, All, slice_index_or, slice_set}
+use Rattle.std.specs.Prelude.{◌≡◌, ℕ, ◌≤◌, ◌++◌, if◌then◌else◌, false, List, [], ◌∷◌, length, map, Option, Some, None, All, slice_index_or, slice_set}
 use Rattle.dh_syntax.specs.declared.locations.Key.{Key}
 use Rattle.dh_syntax.specs.declared.locations.Loc.{Loc}
 use Rattle.dh_syntax.specs.declared.outcomes.Outcome.{Outcome}
@@ -61,6 +61,12 @@ AreEdges parent rows [] [] = Unit {0}
 AreEdges parent rows [] (e ∷ es) = ⊥
 AreEdges parent rows (k ∷ ks) [] = ⊥
 AreEdges parent rows (k ∷ ks) (e ∷ es) = IsEdge parent rows k e × AreEdges parent rows ks es
+
+-- the keys of these imports of a root are added, with an edge for each, and they are no more than this
+pub record AreFew (old : List Entrant) (ks : List Key) (most : ℕ) (new : List Entrant) (es : List Edge) : Type 0 where
+  pub entered_are : AreMore old (entered_all (keys_in old) ks) new
+  pub edges_are : AreEdges None (rows_of new) ks es
+  pub few : length new ≤ most
 
 -- no key stands twice
 abbrev pub AreDistinct : List Key → Type 0

@@ -5,6 +5,8 @@ use Rattle.dh_syntax.specs.Bytes.Binary.{mode_code}
 use Rattle.dh_syntax.specs.Imports.Keys.{texts_before, digest_rank, loc_rank}
 use Rattle.dh_syntax.specs.Imports.Machine.{IsAmong}
 use Rattle.dh_table.specs.declared.texts.Entrant.{Entrant}
+use Rattle.dh_table.specs.declared.texts.Look.{Look}
+use Rattle.dh_table.specs.declared.texts.Text.{Text}
 
 -- by what things are ordered
 abbrev pub Rank : Type 0
@@ -16,6 +18,14 @@ rank_of k = (mode_code k.mode ∷ []) ∷ digest_rank k.digest ∷ loc_rank k.lo
 
 abbrev pub rank_of_entrant : Entrant → Rank
 rank_of_entrant e = rank_of e.key
+
+-- a text by its location
+abbrev pub rank_of_text : Text → Rank
+rank_of_text t = loc_rank t.loc
+
+-- a look by its digest
+abbrev pub rank_of_look : Look → Rank
+rank_of_look l = l.digest.0 ∷ []
 
 -- the rank of the thing of this number
 abbrev pub rank_at : List Rank → ℕ → Rank

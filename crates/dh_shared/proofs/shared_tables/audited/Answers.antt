@@ -13,12 +13,15 @@ returns g c =
     let lates = l.lates_in ∙ ap (λ (h : Held). h.lates) (sym same) in
     let overs = ap (λ (h : Held). h.overs) same in
     record {
-      claims = claims;
-      kept = kept;
-      releases = releases;
-      lates = lates;
-      fetches = l.fetches_in ∙ ap (λ (h : Held). h.fetches) (sym same);
-      failed = l.failed_in ∙ ap (λ (h : Held). h.failed) (sym same);
-      overs = λ some. l.over_in (let P : ℕ → Type 0 = λ n. 0 < n in subst P overs some);
-      steps = omega (arith, parted l.table.history, claims, kept, releases, lates);
+      root = l.root_in;
+      closes = record {
+        claims = claims;
+        kept = kept;
+        releases = releases;
+        lates = lates;
+        fetches = l.fetches_in ∙ ap (λ (h : Held). h.fetches) (sym same);
+        failed = l.failed_in ∙ ap (λ (h : Held). h.failed) (sym same);
+        overs = λ some. l.over_in (let P : ℕ → Type 0 = λ n. 0 < n in subst P overs some);
+        steps = omega (arith, parted l.table.history, claims, kept, releases, lates);
+      };
     }

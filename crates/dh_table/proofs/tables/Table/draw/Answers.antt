@@ -40,5 +40,9 @@ invariant_of-self g c =
       fit = fit_drawn keys t.flights.items _ f c.put-2.ensures.items (along (λ v. IsFrozenLook v.keys c.args.job) (sym c.self.view_is) c.requires.frozen) c.self.invariant.fit;
       scratch = c.self.invariant.scratch;
       explored = λ h. known_flights (state_of old) (state_of next) refl refl refl keys _ _ _ (c.self.invariant.explored h);
+      texts_told = c.self.invariant.texts_told;
+      looks_shelved = c.self.invariant.looks_shelved;
+      text_order = c.self.invariant.text_order;
+      look_order = c.self.invariant.look_order;
       room = grind (arith, common_steps);
     }

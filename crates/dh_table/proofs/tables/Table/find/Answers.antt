@@ -23,7 +23,11 @@ invariant_of-self g c =
       known = inv.known;
       fit = inv.fit;
       scratch = record { explored = c.find_open.ensures.room; seen = along (λ m. length t.keys ≤ m) (sym seen) inv.scratch.seen; trail = along (λ m. m ≤ vec_capacity t.scratch.trail) (sym seen) inv.scratch.trail };
-      explored = (rw (c.as_slice.ensures.value, c.as_slice-2.ensures.value, c.as_slice-3.ensures.value) at c.find_open.ensures.knows) (state_of (view_of {W = g.row.W.Denot} t)) refl stands inv.explored;
+      explored = (rw (c.of.ensures, c.of-2.ensures, c.as_slice.ensures.value, c.as_slice-2.ensures.value, c.as_slice-3.ensures.value) at c.find_open.ensures.knows) (state_of (view_of {W = g.row.W.Denot} t)) refl stands inv.explored;
+      texts_told = inv.texts_told;
+      looks_shelved = inv.looks_shelved;
+      text_order = inv.text_order;
+      look_order = inv.look_order;
       room = inv.room;
     }
 
@@ -32,4 +36,4 @@ returns-clause-found g c =
     let t = c.self.inside in
     let stands : Stands t.keys t.texts.items t.looks.items t.flights.items (state_of (view_of {W = g.row.W.Denot} t)) = record { texts_are = refl; looks_are = refl; asks = c.self.invariant.asks; flights_are = refl } in
     along (λ v. IsFound (state_of v) v.keys c.find_open.result) c.self.view_is
-    ((rw (c.as_slice.ensures.value, c.as_slice-2.ensures.value, c.as_slice-3.ensures.value) at c.find_open.ensures.found) (state_of (view_of {W = g.row.W.Denot} t)) refl stands c.self.invariant.explored)
+    ((rw (c.of.ensures, c.of-2.ensures, c.as_slice.ensures.value, c.as_slice-2.ensures.value, c.as_slice-3.ensures.value) at c.find_open.ensures.found) (state_of (view_of {W = g.row.W.Denot} t)) refl stands c.self.invariant.explored)

@@ -20,7 +20,7 @@ least_of_loop-requires-clause-stuck g c =
       none = c.requires.none;
       wanted = root_wanted s (key_named t.keys c.args.first) needs;
     } in
-    (s, rw (c.as_slice.ensures.value, c.as_slice-2.ensures.value) stuck)
+    (s, rw (c.of.ensures, c.of-2.ensures, c.as_slice.ensures.value, c.as_slice-2.ensures.value) stuck)
 
 pub returns-clause-found : goal.returns-clause-found
 returns-clause-found g c =
@@ -35,4 +35,4 @@ returns-clause-found g c =
       wanted = root_wanted s (key_named t.keys c.args.first) needs;
     } in
     along (λ (v : Shown). IsLoop s (key_named v.keys c.least_of_loop.result)) c.self.view_is
-    ((rw (c.as_slice.ensures.value, c.as_slice-2.ensures.value) at c.least_of_loop.ensures.least) s stuck needs)
+    ((rw (c.of.ensures, c.of-2.ensures, c.as_slice.ensures.value, c.as_slice-2.ensures.value) at c.least_of_loop.ensures.least) s stuck needs)

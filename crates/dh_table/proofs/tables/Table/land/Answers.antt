@@ -41,6 +41,10 @@ invariant_of-self g c =
       fit = fit_filtered t.keys (others c.args.serial) t.flights.items _ left c.self.invariant.fit;
       scratch = c.self.invariant.scratch;
       explored = λ h. known_flights (state_of (view_of t)) (state_of next) refl refl refl keys _ _ _ (c.self.invariant.explored h);
+      texts_told = c.self.invariant.texts_told;
+      looks_shelved = c.self.invariant.looks_shelved;
+      text_order = c.self.invariant.text_order;
+      look_order = c.self.invariant.look_order;
       room =
           room_lands (vec_len t.flights) _ (vec_capacity t.flights) _ (vec_len t.drawn) _ (vec_len t.history) _ (vec_capacity t.history) _ (vec_len t.refused) _ _ fewer c.self.invariant.room c.retain.ensures.capacity c.put.ensures.len c.put.ensures.room;
     }

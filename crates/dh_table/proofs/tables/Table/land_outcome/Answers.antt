@@ -85,6 +85,10 @@ invariant_of-self g c =
           along (λ es. IsExploredBy (state_of next) es explored) (sym keys_is)
           (known_decided _ _ _ _ s (state_of next) serial (stage_of_item i) (limit_by done.limited o) keys n o inside d inv.replays
           (along (λ (k : Key). May (of_key k) s) (sym named) may) (state_is ∙ ap (λ (k : Key). machine.effect (of_key k) s) (sym named)) undecided (opens h) t.scratch.explored explored unblocked (inv.explored (c.free.ensures.known h)));
+      texts_told = inv.texts_told;
+      looks_shelved = inv.looks_shelved;
+      text_order = inv.text_order;
+      look_order = inv.look_order;
       room = room_left (vec_len t.flights) (vec_len c.retain.new.self) v.spare next.spare fewer room (room_falls (vec_len t.flights) (vec_len c.retain.new.self) (vec_capacity t.flights) (vec_capacity c.retain.new.self) (vec_len t.drawn) (vec_capacity t.drawn) (vec_len t.history) (vec_len c.put-2.new.v) (vec_capacity t.history) (vec_capacity c.put-2.new.v)
           (vec_len t.refused) (vec_capacity t.refused) (vec_len t.decided) (vec_len c.put.new.v) (vec_capacity t.decided) (vec_capacity c.put.new.v) (vec_len t.limited) (vec_len c.put_if.new.v) (vec_capacity t.limited) (vec_capacity c.put_if.new.v)
           fewer c.retain.ensures.capacity c.put-2.ensures.len c.put-2.ensures.room c.put.ensures.len c.put.ensures.room c.put_if.ensures.len c.put_if.ensures.room);

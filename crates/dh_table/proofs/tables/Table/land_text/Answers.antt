@@ -1,7 +1,8 @@
 use Rattle.std.proofs.Common.{rules, ◌≡◌, ◌<◌, ◌++◌, ◌∷◌, [], length, ap, sym, ◌∙◌, refl, append-nil, arith, vec_len, vec_capacity, subst as along}
-use Rattle.std.specs.Prelude.{ℕ, map, filter, All, Option, Some, MatchOption}
+use Rattle.std.specs.Prelude.{ℕ, List, map, filter, All, Option, Some, None, MatchOption}
 use Rattle.std.proofs.lemmas.Fn.{filter_same}
 use Rattle.std.proofs.lemmas.Grind.{common_steps}
+use Rattle.dh_syntax.specs.Imports.Keys.{loc_rank}
 use Rattle.dh_syntax.specs.Imports.Machine as machine
 use Rattle.dh_syntax.specs.Imports.Machine.{InFlight}
 use Rattle.dh_demand.specs.Results.{ask_of}
@@ -12,9 +13,11 @@ use Rattle.dh_table.specs.declared.steps.Job.{Job}
 use Rattle.dh_table.specs.declared.steps.Step.TheVariants as steps
 use Rattle.dh_table.specs.declared.tables.Table.TheInside.{Inside}
 use Rattle.dh_table.specs.declared.texts.Text.{Text}
+use Rattle.dh_table.specs.Brought.{AreTold, IsTold}
 use Rattle.dh_table.specs.Inside.Entering.{AreMore, AreEdges, entered_all, keys_in}
 use Rattle.dh_table.specs.Inside.Recording.{imports_of, read_of}
 use Rattle.dh_table.specs.Inside.Searching.{Knows}
+use Rattle.dh_table.specs.Inside.Sorting.{IsOrder, IsRanked, rank_of_text}
 use Rattle.dh_table.specs.Shown.{Shown}
 use Rattle.dh_table.specs.States.{IsReplayed, noted_by, parsed_by, rows_of, state_of, news_of}
 use Rattle.dh_table.specs.Tables.{AreFit, IsGood, IsKnown, IsOwned, IsStepNamed, view_of}
@@ -24,6 +27,7 @@ use Rattle.dh_table.proofs.Fitting.{fit_filtered, fit_more}
 use Rattle.dh_table.proofs.Histories.{further}
 use Rattle.dh_table.proofs.Known.{step_grows}
 use Rattle.dh_table.proofs.Logs.{others, fewer_flights, room_lands}
+use Rattle.dh_table.proofs.Recorded.{order_grown, text_unrecorded}
 use Rattle.dh_table.proofs.Staying.{known_alike, known_more as known_grown}
 use Rattle.dh_table.proofs.Stepping.{filtered-flights, all-filter, all-push}
 use Rattle.dh_table.proofs.TextLanding.{noted_same, is_parsed, is_read, keys_are_noted, steps_named, flights_named, jobs_named, numbers_named, owned_more, asks_more, known_more, fetched_state, fetched_history}
@@ -58,7 +62,7 @@ invariant_of-self g c = elim c.match-room_for.branch [
       fetched_state v es' (entered_all (keys_in t.keys) (imports_of scan)) m serial text inv.flights_named inv.drawn_named inv.decided_named inv.limited_named next refl refl texts refl refl refl
       (filtered-flights t.keys serial t.flights.items _ left) left_named refl
       ∙ ap (λ x. machine.effect (machine.Fetched serial l x) (state_of v)) (noted_same got scan edges) in
-      along (λ (x : Inside _). IsGood {W = g.row.W.Denot} x) (sym w.self-inside-is)
+      along (λ (x : Inside _). IsGood g.W.World.told g.W.World.shelved {W = g.row.W.Denot} x) (sym w.self-inside-is)
       (record {
         replays =
             further _ _ _ _ _ inv.replays (machine.Fetched serial l noted) (flies, is_parsed l got scan c.requires.scanned) (state_of next) _ _ state_is
@@ -81,6 +85,12 @@ invariant_of-self g c = elim c.match-room_for.branch [
         explored =
             known_grown t.keys es' (entered_all (keys_in t.keys) (imports_of scan)) m (state_of v) (state_of next) (step_grows _ _ _ _ (state_of v) (state_of next) (machine.Fetched serial l noted) inv.replays (flies, is_parsed l got scan c.requires.scanned) state_is) refl
             (ap machine.outcome_of state_is) t.scratch.explored c.room_for.new.scratch.explored c.room_for.ensures.known inv.explored;
+        texts_told = all-push (λ (x : Text). IsTold (g.W.World.told x.loc) x.got) t.texts.items _ text texts inv.texts_told c.requires.told;
+        looks_shelved = inv.looks_shelved;
+        text_order =
+            order_grown rank_of_text w.as_slice-rows.result.now c.room_for.new.texts.items w.put.new.v.items text w.insert.new.self.numbers.items w.as_slice-rows.ensures.value
+            (w.put.ensures.items ∙ (λ i. c.room_for.new.texts.items ++ record { loc = l; got = got; read = w.read_of-read.ensures i } ∷ [])) w.insert.ensures;
+        look_order = inv.look_order;
         room =
             room_lands (vec_len t.flights) _ (vec_capacity t.flights) _ (vec_len t.drawn) _ (vec_len t.history) _ (vec_capacity t.history) _ (vec_len t.refused) _ _ fewer inv.room w.retain.ensures.capacity w.put-in-Ok.ensures.len w.put-in-Ok.ensures.room;
       })
@@ -91,7 +101,7 @@ invariant_of-self g c = elim c.match-room_for.branch [
       let texts_are : t.texts.items ≡ c.room_for.new.texts.items = sym w.in-Err.ensures.items in
       let as_before : view_of {W = g.row.W.Denot} t ≡ view_of {W = g.row.W.Denot} (record t { keys = c.room_for.new.keys; texts = c.room_for.new.texts; scratch = c.room_for.new.scratch }) =
       λ i. record (view_of {W = g.row.W.Denot} t) { keys = keys_are i; texts = texts_are i } in
-      along (λ (x : Inside _). IsGood {W = g.row.W.Denot} x) (sym w.self-inside-is)
+      along (λ (x : Inside _). IsGood g.W.World.told g.W.World.shelved {W = g.row.W.Denot} x) (sym w.self-inside-is)
       (record {
         replays = along IsReplayed as_before inv.replays;
         flights_named = along (λ es. All (λ (f : Flight). f.job.key < length es) t.flights.items) keys_are inv.flights_named;
@@ -105,6 +115,10 @@ invariant_of-self g c = elim c.match-room_for.branch [
         fit = along (λ es. AreFit es t.flights.items) keys_are inv.fit;
         scratch = w.in-Err.ensures.scratch;
         explored = along (λ (x : Shown). Knows (state_of x) x.keys c.room_for.new.scratch.explored) as_before (known_alike (state_of (view_of {W = g.row.W.Denot} t)) t.keys t.scratch.explored c.room_for.new.scratch.explored c.room_for.ensures.known inv.explored);
+        texts_told = along (λ (ts : List Text). AreTold g.W.World.told ts) texts_are inv.texts_told;
+        looks_shelved = inv.looks_shelved;
+        text_order = along (λ (ns : List ℕ). IsOrder (map rank_of_text c.room_for.new.texts.items) ns) (sym w.in-Err.ensures.numbers) (along (λ (ts : List Text). IsOrder (map rank_of_text ts) t.text_order.numbers.items) texts_are inv.text_order);
+        look_order = inv.look_order;
         room = inv.room;
       })
 ]
@@ -162,3 +176,12 @@ returns-clause-decided g c =
     landed_decided (λ (n : News). n ≡ news.Fetched c.args.loc c.args.got c.args.scan) c.args.serial (machine.fetched c.args.loc (noted_by c.args.got (parsed_by c.args.scan))) c.args.self.now
     (view_of {W = g.row.W.Denot} c.match-room_for.self-inside) c.match-room_for.result
     (along IsReplayed c.self.view_is c.self.invariant.replays) (returns-clause-lands g c)
+
+pub insert-requires-clause-new : goal.insert-requires-clause-new
+insert-requires-clause-new g c =
+    let t = c.self.inside in
+    let v = view_of {W = g.row.W.Denot} t in
+    let l = c.args.loc in
+    let flies : InFlight (state_of v) c.args.serial (machine.Fetch l) = along (λ (x : Shown). InFlight (state_of x) c.args.serial (machine.Fetch l)) (sym c.self.view_is) c.requires.in_time in
+    along (λ (ts : List Text). IsRanked (map rank_of_text ts) (loc_rank l) None) (sym (c.as_slice-rows.ensures.value ∙ c.room_for.ensures.items))
+    (text_unrecorded v c.args.serial l c.self.invariant.replays flies)

@@ -58,6 +58,10 @@ invariant_of-self g c =
       fit = along (λ es. AreFit es t.flights.items) (sym keys_is) (fit_decided keys n o t.flights.items inside d tt inv.fit);
       scratch = let r = along (λ m. IsRoomy m t.scratch) (sym sizes) inv.scratch in record { explored = record { marks = r.explored.marks; waiting = r.explored.waiting; blocking = r.explored.blocking }; seen = r.seen; trail = r.trail };
       explored = λ h. absurd (false≢true h);
+      texts_told = inv.texts_told;
+      looks_shelved = inv.looks_shelved;
+      text_order = inv.text_order;
+      look_order = inv.look_order;
       room = grind (arith, common_steps);
     }
 

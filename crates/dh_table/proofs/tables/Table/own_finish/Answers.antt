@@ -1,4 +1,4 @@
-use Rattle.std.proofs.Common.{ap, sym, ◌∙◌, refl, subst as along}
+use Rattle.std.proofs.Common.{◌≡◌, ap, sym, ◌∙◌, refl, subst as along}
 use Rattle.std.proofs.lemmas.Bool.{false≢true}
 use Rattle.dh_syntax.specs.Imports.Machine as machine
 use Rattle.dh_syntax.specs.Imports.Machine.{stage_of}
@@ -28,9 +28,11 @@ returns-then-own g c =
     let flies = rw c.as_slice.ensures.value at c.in_ok-flight.ensures.flies in
     let named = finish_names t.keys f.job i.key flies.own in
     let stands : Stands t.keys t.texts.items t.looks.items t.flights.items s = record { texts_are = refl; looks_are = refl; asks = c.self.invariant.asks; flights_are = refl } in
+    let texts_are : c.found_texts-texts.result ≡ t.texts.items = c.found_texts-texts.ensures ∙ ap (λ (x : Shown). x.texts) (sym c.self.view_is) in
+    let looks_are : c.found_looks-looks.result ≡ t.looks.items = c.found_looks-looks.ensures ∙ ap (λ (x : Shown). x.looks) (sym c.self.view_is) in
     let tested =
     c.is_own_item-own.ensures
-    ∙ (λ j. are_due_on_one (stage (record_by (c.as_slice-2.ensures.value j) (c.as_slice-3.ensures.value j)) (ask_of (rows_of t.keys)) (key_named t.keys f.job.key)) (stage_of_item i)) in
+    ∙ (λ j. are_due_on_one (stage (record_by (texts_are j) (looks_are j)) (ask_of (rows_of t.keys)) (key_named t.keys f.job.key)) (stage_of_item i)) in
     let due = (due_tells (stage (record_by t.texts.items t.looks.items) (ask_of (rows_of t.keys)) (key_named t.keys f.job.key)) i).0 (sym tested ∙ c.if-own.true) in
     along (λ (x : Shown). IsOwnFinish x.keys (state_of x) i f) c.self.view_is
     (record {
@@ -52,9 +54,11 @@ returns-else-own g c serial h =
     let flies = rw c.as_slice.ensures.value at c.in_ok-flight.ensures.flies in
     let named = finish_names t.keys f.job i.key flies.own in
     let stands : Stands t.keys t.texts.items t.looks.items t.flights.items s = record { texts_are = refl; looks_are = refl; asks = c.self.invariant.asks; flights_are = refl } in
+    let texts_are : c.found_texts-texts.result ≡ t.texts.items = c.found_texts-texts.ensures ∙ ap (λ (x : Shown). x.texts) (sym c.self.view_is) in
+    let looks_are : c.found_looks-looks.result ≡ t.looks.items = c.found_looks-looks.ensures ∙ ap (λ (x : Shown). x.looks) (sym c.self.view_is) in
     let tested =
     c.is_own_item-own.ensures
-    ∙ (λ j. are_due_on_one (stage (record_by (c.as_slice-2.ensures.value j) (c.as_slice-3.ensures.value j)) (ask_of (rows_of t.keys)) (key_named t.keys f.job.key)) (stage_of_item i)) in
+    ∙ (λ j. are_due_on_one (stage (record_by (texts_are j) (looks_are j)) (ask_of (rows_of t.keys)) (key_named t.keys f.job.key)) (stage_of_item i)) in
     let own = along (λ (x : Shown). IsFinish (state_of x) i serial) (sym c.self.view_is) h in
     false≢true
     (sym c.if-own.false ∙ tested

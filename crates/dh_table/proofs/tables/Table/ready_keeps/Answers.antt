@@ -1,5 +1,5 @@
 use Rattle.std.specs.Prelude.{◌≡◌, ℕ, [], length, map, None}
-use Rattle.std.proofs.Common.{sym, subst as along}
+use Rattle.std.proofs.Common.{ap, sym, ◌∙◌, subst as along}
 use Rattle.std.proofs.lemmas.Result.{IfOk-weaker}
 use Rattle.dh_syntax.specs.Expressions.Bridge.{term}
 use Rattle.dh_syntax.specs.Imports.Keeps.{AreKeeps}
@@ -20,10 +20,12 @@ returns g c =
     let t = view_of {W = g.row.W.Denot} c.self.inside in
     let marks = c.mark_visited.new.marks in
     let found = c.in_ok-found.found.items in
+    let texts_are : c.found_texts-texts.result ≡ t.texts = c.found_texts-texts.ensures ∙ ap (λ (x : Shown). x.texts) (sym c.self.view_is) in
+    let looks_are : c.found_looks-looks.result ≡ t.looks = c.found_looks-looks.ensures ∙ ap (λ (x : Shown). x.looks) (sym c.self.view_is) in
     let visits : AreVisited (record_by t.texts t.looks) (term t.root.expr) t.keys marks =
-    along (λ ts. AreVisited (record_by ts t.looks) (term t.root.expr) t.keys marks) c.as_slice-texts.ensures.value
-    (along (λ ls. AreVisited (record_by c.as_slice-texts.result.now ls) (term t.root.expr) t.keys marks) c.as_slice-looks.ensures.value c.mark_visited.ensures.visited) in
-    let least : AreLeast t.keys t.looks marks (length t.keys) found = along (λ ls. AreLeast t.keys ls marks (length t.keys) found) c.as_slice-looks.ensures.value c.in_ok-found.ensures in
+    along (λ ts. AreVisited (record_by ts t.looks) (term t.root.expr) t.keys marks) texts_are
+    (along (λ ls. AreVisited (record_by c.found_texts-texts.result ls) (term t.root.expr) t.keys marks) looks_are c.mark_visited.ensures.visited) in
+    let least : AreLeast t.keys t.looks marks (length t.keys) found = along (λ ls. AreLeast t.keys ls marks (length t.keys) found) looks_are c.in_ok-found.ensures in
     let ready : walk None (outcome_of (state_of t)) (term t.root.expr) ≡ Ready c.requires.0 = along (λ (x : Shown). root_walk (state_of x) ≡ Ready c.requires.0) (sym c.self.view_is) c.requires.1 in
     IfOk-weaker c.entries_of.result (λ es. AreEntries t.keys c.as_slice.result.now (map pair_of es)) _
     (λ es h.

@@ -33,5 +33,9 @@ invariant_of-self g c =
       fit = c.self.invariant.fit;
       scratch = c.self.invariant.scratch;
       explored = c.self.invariant.explored;
+      texts_told = c.self.invariant.texts_told;
+      looks_shelved = c.self.invariant.looks_shelved;
+      text_order = c.self.invariant.text_order;
+      look_order = c.self.invariant.look_order;
       room = grind (arith, common_steps);
     }

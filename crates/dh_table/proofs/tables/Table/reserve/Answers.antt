@@ -38,5 +38,9 @@ invariant_of-self-2 g c =
       fit = along (λ (fs : List Flight). AreFit t.keys fs) flights inv.fit;
       scratch = inv.scratch;
       explored = along (λ (x : Shown). Knows (state_of x) t.keys t.scratch.explored) same inv.explored;
+      texts_told = inv.texts_told;
+      looks_shelved = inv.looks_shelved;
+      text_order = inv.text_order;
+      look_order = inv.look_order;
       room = grind (arith, common_steps);
     }

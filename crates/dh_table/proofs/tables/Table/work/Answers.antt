@@ -26,12 +26,17 @@ due_item-requires-clause-due g c =
     let flies : InFlight (state_of v) c.args.ticket.now.serial (machine.Finish k) =
     along (λ (x : Shown). InFlight (state_of x) c.args.ticket.now.serial (machine.Finish (key_named x.keys c.job_in_flight-job.result.key))) (sym c.self.view_is)
     (along (λ kind. InFlight (state_of c.args.self.now) c.args.ticket.now.serial (task_by kind (key_named c.args.self.now.keys c.job_in_flight-job.result.key))) c.in-Finish.is c.job_in_flight-job.ensures.flies) in
-    along (λ ts. IsDue (stage (record_by ts c.as_slice-in-Finish.result.now) (ask_of (rows_of t.keys)) k)) (sym c.as_slice.ensures.value)
-    (along (λ ls. IsDue (stage (record_by t.texts.items ls) (ask_of (rows_of t.keys)) k)) (sym c.as_slice-in-Finish.ensures.value)
+    let texts_are : c.found_texts-texts.result ≡ t.texts.items = c.found_texts-texts.ensures ∙ ap (λ (x : Shown). x.texts) (sym c.self.view_is) in
+    let looks_are : c.found_looks-looks.result ≡ t.looks.items = c.found_looks-looks.ensures ∙ ap (λ (x : Shown). x.looks) (sym c.self.view_is) in
+    along (λ ts. IsDue (stage (record_by ts c.found_looks-looks.result) (ask_of (rows_of t.keys)) k)) (sym texts_are)
+    (along (λ ls. IsDue (stage (record_by t.texts.items ls) (ask_of (rows_of t.keys)) k)) (sym looks_are)
     (along IsDue (stage_stands t.keys t.texts.items t.looks.items t.flights.items (state_of v) stands k) (flies_due v c.args.ticket.now.serial k c.self.invariant.replays flies)))
 
 pub due_item-requires-clause-spelled : goal.due_item-requires-clause-spelled
-due_item-requires-clause-spelled g c = along AreSpelled (sym c.as_slice.ensures.value) (texts_spelled (view_of {W = g.row.W.Denot} c.self.inside) c.self.invariant.replays)
+due_item-requires-clause-spelled g c =
+    let t = c.self.inside in
+    let texts_are : c.found_texts-texts.result ≡ t.texts.items = c.found_texts-texts.ensures ∙ ap (λ (x : Shown). x.texts) (sym c.self.view_is) in
+    along AreSpelled (sym texts_are) (texts_spelled (view_of {W = g.row.W.Denot} c.self.inside) c.self.invariant.replays)
 
 pub returns-in_ok-copied-in-Fetch-clause-work : goal.returns-in_ok-copied-in-Fetch-clause-work
 returns-in_ok-copied-in-Fetch-clause-work g c =
@@ -49,17 +54,19 @@ returns-in-Some-clause-work g c =
     along (λ d. InFlight (state_of c.args.self.now) c.args.ticket.now.serial (machine.Look (digest_or_none d))) (ap (λ (k : Key). k.digest) here ∙ c.in-Some.is)
     (along (λ kind. InFlight (state_of c.args.self.now) c.args.ticket.now.serial (task_by kind (key_named c.args.self.now.keys n))) c.in-Look.is c.job_in_flight-job.ensures.flies)
 
-pub returns-in_ok-due_item-in-Finish-clause-work : goal.returns-in_ok-due_item-in-Finish-clause-work
-returns-in_ok-due_item-in-Finish-clause-work g c =
+pub returns-in_ok-item-in-Finish-clause-work : goal.returns-in_ok-item-in-Finish-clause-work
+returns-in_ok-item-in-Finish-clause-work g c =
     let t = c.self.inside in
     let v = view_of {W = g.row.W.Denot} t in
     let n = c.job_in_flight-job.result.key in
     let k = key_named t.keys n in
-    let i = c.in_ok-due_item-in-Finish.field-0 in
+    let i = c.in_ok-item-in-Finish.item in
     let stands : Stands t.keys t.texts.items t.looks.items t.flights.items (state_of v) = record { texts_are = refl; looks_are = refl; asks = c.self.invariant.asks; flights_are = refl } in
+    let texts_are : c.found_texts-texts.result ≡ t.texts.items = c.found_texts-texts.ensures ∙ ap (λ (x : Shown). x.texts) (sym c.self.view_is) in
+    let looks_are : c.found_looks-looks.result ≡ t.looks.items = c.found_looks-looks.ensures ∙ ap (λ (x : Shown). x.looks) (sym c.self.view_is) in
     let made : IsItem k (stage (record_by t.texts.items t.looks.items) (ask_of (rows_of t.keys)) k) i =
-    along (λ ls. IsItem k (stage (record_by t.texts.items ls) (ask_of (rows_of t.keys)) k) i) c.as_slice-in-Finish.ensures.value
-    (along (λ ts. IsItem k (stage (record_by ts c.as_slice-in-Finish.result.now) (ask_of (rows_of t.keys)) k) i) c.as_slice.ensures.value c.in_ok-due_item-in-Finish.ensures.item) in
+    along (λ ls. IsItem k (stage (record_by t.texts.items ls) (ask_of (rows_of t.keys)) k) i) looks_are
+    (along (λ ts. IsItem k (stage (record_by ts c.found_looks-looks.result) (ask_of (rows_of t.keys)) k) i) texts_are c.in_ok-item-in-Finish.ensures.item) in
     let here : key_named c.args.self.now.keys n ≡ i.key = ap (λ (x : Shown). key_named x.keys n) (sym c.self.view_is) ∙ sym made.key_is in
     let staged : stage_of (state_of v) k ≡ stage_of_item i = stage_stands t.keys t.texts.items t.looks.items t.flights.items (state_of v) stands k ∙ made.stage_is in (
       along (λ (x : Key). InFlight (state_of c.args.self.now) c.args.ticket.now.serial (machine.Finish x)) here

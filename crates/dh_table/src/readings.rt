@@ -1,0 +1,55 @@
+//! The texts of a table as they were found, for telling where a fault stands in one.
+
+ghost use Rattle.std.specs.Prelude.{◌≡◌, List, ℕ, Option, Some, Ok, IfOk};
+ghost use Rattle.std.specs.Option.{option_copied};
+ghost use Rattle.dh_syntax.specs.Expressions.Tree.{Term};
+ghost use Rattle.dh_syntax.specs.Imports.Machine.{outcome_of};
+ghost use Rattle.dh_syntax.specs.Imports.Records.{Found, text_at};
+ghost use Rattle.dh_syntax.specs.Imports.TextPaths.{text_path};
+ghost use Rattle.dh_demand.specs.Scans.{text_key};
+ghost use Rattle.dh_table.specs.States.{record_of, state_of};
+
+use crate::lookups::{Texts, text_at};
+use crate::news::Noted;
+use crate::tables::Table;
+use dh_demand::text_path;
+use dh_ports::{Got, World};
+use dh_syntax::Loc;
+use std::alloc::{AllocError, Global};
+
+impl<W: World> Table<W> {
+    /// The bytes that were found at a location.
+    pub fn bytes_at(&self, loc: &Loc) -> Option<&[u8]>
+        ensures { (bytes : List ℕ) (allow : Option (List ℕ)) (e : Term) → text_at (record_of self.now) loc.now ≡ Some (Found bytes allow (Ok e)) → option_copied result ≡ Some bytes }
+    {
+        let texts = Texts::of(self.texts.as_slice(), &self.text_order);
+        let text = text_at(&texts, loc)?;
+        match &text.got {
+            Noted::Got(Got::Found(found)) => Some(found.bytes.as_slice()),
+            Noted::Got(Got::Absent) | Noted::Got(Got::Broken(_)) | Noted::Failed => None,
+        }
+    }
+
+    /// The path in the root of the node to which a path leads in the root with its values.
+    pub fn root_path(&self, alloc: Global, path: &[u32]) -> Result<Vec<u32>, AllocError>
+        ensures { IfOk result (λ p. p.items ≡ text_path None (outcome_of (state_of self.now)) (state_of self.now).root path.now) }
+    {
+        text_path(alloc, &self.root, None, self, path)
+    }
+
+    /// The path in the text at a location of the node to which a path leads in the text with its values. It is empty where no text
+    /// that spells an expression was found there.
+    pub fn path_at(&self, alloc: Global, loc: &Loc, path: &[u32]) -> Result<Vec<u32>, AllocError>
+        ensures { IfOk result (λ p. (bytes : List ℕ) (allow : Option (List ℕ)) (e : Term) → text_at (record_of self.now) loc.now ≡ Some (Found bytes allow (Ok e))
+            → p.items ≡ text_path (text_key (Some loc.now)) (outcome_of (state_of self.now)) e path.now) }
+    {
+        let texts = Texts::of(self.texts.as_slice(), &self.text_order);
+        let Some(text) = text_at(&texts, loc) else {
+            return Ok(Vec::new(alloc));
+        };
+        match &text.read {
+            Some(Ok(scan)) => text_path(alloc, scan, Some(loc), self, path),
+            Some(Err(_)) | None => Ok(Vec::new(alloc)),
+        }
+    }
+}
