@@ -1,0 +1,10 @@
+use Rattle.std.proofs.Common.{ap}
+use Rattle.dh_syntax.specs.Expressions.Bridge.{term}
+use Rattle.dh_work.proofs.Comings.{good_plain, same_is_value}
+use Rattle.dh_work.proofs.last_steps.same_value.Goals as goal
+
+pub returns-clause-outcome : goal.returns-clause-outcome
+returns-clause-outcome c = good_plain c.in_ok-value.value c.in_ok-origin.origin _ _ (ap term c.in_ok-value.ensures) c.in_ok-origin.ensures
+
+pub returns-clause-value : goal.returns-clause-value
+returns-clause-value c = same_is_value (term c.args.value.now) (term c.in_ok-value.value) (ap term c.in_ok-value.ensures) c.requires
