@@ -1,0 +1,51 @@
+-- What one task adds to the counts of a worker.
+use Rattle.std.proofs.Common.{◌≡◌, ℕ, ◌+◌, ◌-◌, ◌^◌, ◌<◌, ◌≤◌, ◌⊎◌, inl, inr, Bool, true, false, refl, sym, ap, ◌∙◌, subst, arith}
+use Rattle.std.specs.Prelude.{if◌then◌else◌}
+use Rattle.dh_ports.specs.Counts.{one_more, Rose}
+use Rattle.dh_table.specs.Calls.{brings_failure}
+use Rattle.dh_table.specs.States.{news_of}
+use Rattle.dh_table.specs.declared.news.News.{News}
+use Rattle.dh_table.specs.declared.works.Work.{Work}
+use Rattle.dh_table.specs.declared.works.Work.TheVariants as works
+use Rattle.dh_shared.specs.Held.{Held}
+use Rattle.dh_shared.specs.Turns.{fetches_of}
+use Rattle.dh_work.specs.Brings.{TellsFailure}
+use Rattle.dh_session.specs.Inside.{asked_after, failures_told}
+use Rattle.dh_session.specs.Works.{AtLast, Asks, Fails}
+
+-- a failure that is told is a fault
+one_failure : (fails : Bool) (before after failed failed' : ℕ) → (fails ≡ true → Rose before after) → before ≤ after → failed' ≤ failed + (if fails then 1 else 0)
+    → AtLast after ⊎ (failed' + before ≤ failed + after)
+one_failure false before after failed failed' rose grew more = inr (omega arith)
+one_failure true before after failed failed' rose grew more = go (rose refl)
+  where
+    go : Rose before after → AtLast after ⊎ (failed' + before ≤ failed + after)
+    go (inl lt) = inr (omega (arith, lt, more))
+    go (inr last) = inl (let e = last.1 in omega (arith, e))
+
+pub fails_by : (n : News) (before after : ℕ) (old new : Held) → before ≤ after → TellsFailure n before after → new.failed ≤ old.failed + failures_told n → Fails before after old new
+fails_by n before after old new grew tells more = (grew, one_failure (brings_failure (news_of n)) before after old.failed new.failed tells grew more)
+
+-- without news no failure is told
+pub fails_none : (before after : ℕ) (old new : Held) → before ≤ after → new.failed ≤ old.failed → Fails before after old new
+fails_none before after old new grew more = (grew, inr (omega arith))
+
+-- faults and failures of one task after another
+pub fails_after : (a b c : ℕ) (h i j : Held) → Fails a b h i → Fails b c i j → Fails a c h j
+fails_after a b c h i j (p, inl last) (q, s) = (omega arith, inl (omega arith))
+fails_after a b c h i j (p, inr le) (q, inl last) = (omega arith, inl last)
+fails_after a b c h i j (p, inr le) (q, inr le') = (omega arith, inr (omega arith))
+
+-- a desk that is asked once more, and one more fetch
+asked_more : (a b : ℕ) (h i j : Held) → Asks a b h i → j.fetches ≡ i.fetches + 1 → Asks a (one_more b) h j
+asked_more a b h i j (inl last) more = inl (grind (arith, last))
+asked_more a b h i j (inr is) more = grind (arith, is, more)
+
+same_fetches : (a b : ℕ) (h i j : Held) → Asks a b h i → j.fetches ≡ i.fetches + 0 → Asks a b h j
+same_fetches a b h i j (inl last) same = inl last
+same_fetches a b h i j (inr is) same = inr (omega (arith, is, same))
+
+pub asks_after : (w : Work) (a b c : ℕ) (h i j : Held) → Asks a b h i → c ≡ asked_after w b → j.fetches ≡ i.fetches + fetches_of w → Asks a c h j
+asks_after (works.Fetch l) a b c h i j asks is more = subst (λ n. Asks a n h j) (sym is) (asked_more a b h i j asks more)
+asks_after (works.Look d) a b c h i j asks is more = subst (λ n. Asks a n h j) (sym is) (same_fetches a b h i j asks more)
+asks_after (works.Finish t) a b c h i j asks is more = subst (λ n. Asks a n h j) (sym is) (same_fetches a b h i j asks more)

@@ -1,0 +1,4 @@
+pub mod Ended
+pub mod Inside
+pub mod ResolvesTo
+pub mod Works

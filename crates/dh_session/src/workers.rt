@@ -1,0 +1,171 @@
+//! One worker: it claims tasks, works on them and delivers what it found, until the root is decided.
+
+ghost use Rattle.std.specs.Prelude.{◌≡◌, ◌+◌, ◌≤◌, IfOk, OnOk, OnErr};
+ghost use Rattle.dh_shared.specs.Turns.{Brings};
+ghost use Rattle.dh_table.specs.Works.{IsFitWork};
+ghost use Rattle.dh_work.specs.Brings.{TellsFailure};
+ghost use Rattle.dh_session.specs.Inside.{asked_after, failures_told};
+ghost use Rattle.dh_session.specs.Works.{Asks, Fails, FreesLate, EndsEarly};
+
+use dh_ports::{Desk, Gate, World};
+use dh_shared::{Rooted, Seat, SharedTable, Turn};
+use dh_table::{News, Taken, Ticket, Work};
+use dh_work::{fetch_text, look_up, work_item};
+use std::alloc::{AllocError, Global};
+use std::sync::Wait;
+use std::sync::ledger::Ledger;
+
+/// What the task comes to. A fetch passes the gate first.
+#[tactic(auto, using(crate::proofs::Bringing::text_brings, crate::proofs::Bringing::look_brings, crate::proofs::Bringing::outcome_tells))]
+fn bring<W: World, D: Desk<W>, G: Gate>(
+    alloc: Global,
+    desk: &mut D,
+    gate: &G,
+    work: Work,
+) -> Result<News, AllocError>
+    requires { IsFitWork work }
+    ensures brings { IfOk result (Brings W.told W.shelved) }
+    ensures asked { D.asked desk.new ≡ asked_after work (D.asked desk.old) }
+    ensures filed { D.filed desk.new ≡ D.filed desk.old }
+    ensures counted { D.faults desk.old ≤ D.faults desk.new }
+    ensures failed { IfOk result (λ news. TellsFailure news (D.faults desk.old) (D.faults desk.new)) }
+{
+    match work {
+        Work::Fetch(loc) => {
+            gate.at_fetch(&loc);
+            fetch_text(alloc, desk, loc)
+        }
+        Work::Look(digest) => look_up(alloc, desk, digest),
+        Work::Finish(item) => Ok(News::Finished(work_item(alloc, item)?)),
+    }
+}
+
+/// Delivers news. A ticket that comes back is given back to the table.
+fn hand_in<
+    T: Wait,
+    W: World,
+    Q: Rooted,
+    C: Ledger,
+    K: Ledger,
+    R: Ledger,
+    L: Ledger,
+    F: Ledger,
+    X: Ledger,
+    O: Ledger,
+>(
+    rt: &T,
+    shared: &SharedTable<W, Q, C, K, R, L, F, X, O>,
+    seat: &mut Seat<C, K, R, L, F, X, O>,
+    ticket: Ticket,
+    news: News,
+) -> Result<(), AllocError>
+    requires { Brings W.told W.shelved news }
+    ensures frees { OnOk result (FreesLate seat.old.shares seat.new.shares) }
+    ensures early { OnErr result (EndsEarly seat.old.shares seat.new.shares) }
+    ensures fetches { seat.new.shares.fetches ≡ seat.old.shares.fetches }
+    ensures overs { seat.new.shares.overs ≡ seat.old.shares.overs }
+    ensures failed { seat.new.shares.failed ≤ seat.old.shares.failed + failures_told news }
+    ensures worker { seat.new.worker ≡ seat.old.worker }
+{
+    match shared.deliver(rt, seat, ticket, news) {
+        Taken::Kept => Ok(()),
+        Taken::Late(ticket, _serial) => {
+            shared.release(rt, seat, ticket);
+            Ok(())
+        }
+        Taken::Memory(ticket, _news) => {
+            shared.release(rt, seat, ticket);
+            Err(AllocError)
+        }
+    }
+}
+
+/// Works on a task and delivers what it comes to. Where memory is wanting for that, the ticket is given back.
+#[tactic(auto, using(crate::proofs::Counting::fails_by, crate::proofs::Counting::fails_none))]
+fn carry_out<
+    T: Wait,
+    W: World,
+    D: Desk<W>,
+    G: Gate,
+    Q: Rooted,
+    C: Ledger,
+    K: Ledger,
+    R: Ledger,
+    L: Ledger,
+    F: Ledger,
+    X: Ledger,
+    O: Ledger,
+>(
+    rt: &T,
+    alloc: Global,
+    shared: &SharedTable<W, Q, C, K, R, L, F, X, O>,
+    seat: &mut Seat<C, K, R, L, F, X, O>,
+    desk: &mut D,
+    gate: &G,
+    ticket: Ticket,
+    work: Work,
+) -> Result<(), AllocError>
+    requires { IsFitWork work }
+    ensures asked { D.asked desk.new ≡ asked_after work (D.asked desk.old) }
+    ensures fails { Fails (D.faults desk.old) (D.faults desk.new) seat.old.shares seat.new.shares }
+    ensures filed { D.filed desk.new ≡ D.filed desk.old }
+    ensures frees { OnOk result (FreesLate seat.old.shares seat.new.shares) }
+    ensures early { OnErr result (EndsEarly seat.old.shares seat.new.shares) }
+    ensures fetches { seat.new.shares.fetches ≡ seat.old.shares.fetches }
+    ensures overs { seat.new.shares.overs ≡ seat.old.shares.overs }
+    ensures worker { seat.new.worker ≡ seat.old.worker }
+{
+    match bring(alloc, desk, gate, work) {
+        Ok(news) => hand_in(rt, shared, seat, ticket, news),
+        Err(error) => {
+            shared.release(rt, seat, ticket);
+            Err(error)
+        }
+    }
+}
+
+/// Claims tasks, passes the gate before each fetch, works on each task and delivers what it comes to, until a claim finds the root
+/// decided. Where memory is wanting it gives its ticket back and ends; after news that came late it gives its ticket back and goes
+/// on.
+#[tactic(auto, using(crate::proofs::Counting::asks_after, crate::proofs::Counting::fails_after))]
+pub fn worker<
+    T: Wait,
+    W: World,
+    D: Desk<W>,
+    G: Gate,
+    Q: Rooted,
+    C: Ledger,
+    K: Ledger,
+    R: Ledger,
+    L: Ledger,
+    F: Ledger,
+    X: Ledger,
+    O: Ledger,
+>(
+    rt: &T,
+    alloc: Global,
+    shared: &SharedTable<W, Q, C, K, R, L, F, X, O>,
+    seat: &mut Seat<C, K, R, L, F, X, O>,
+    desk: &mut D,
+    gate: &G,
+) -> Result<(), AllocError>
+    ensures over { OnOk result (seat.new.shares.overs ≡ seat.old.shares.overs + 1) }
+    ensures early { OnErr result (EndsEarly seat.old.shares seat.new.shares) }
+    ensures frees { OnOk result (FreesLate seat.old.shares seat.new.shares) }
+    ensures asks { OnOk result (Asks (D.asked desk.old) (D.asked desk.new) seat.old.shares seat.new.shares) }
+    ensures fails { Fails (D.faults desk.old) (D.faults desk.new) seat.old.shares seat.new.shares }
+    ensures filed { D.filed desk.new ≡ D.filed desk.old }
+    ensures worker { seat.new.worker ≡ seat.old.worker }
+{
+    for _ in rt.forever() {
+        match shared.claim(rt, seat) {
+            Turn::Over => return Ok(()),
+            Turn::Memory => return Err(AllocError),
+            Turn::Idle => shared.wait(rt, seat),
+            Turn::Work(ticket, work) => {
+                carry_out(rt, alloc, shared, seat, desk, gate, ticket, work)?;
+            }
+        }
+    }
+    unreachable!()
+}
