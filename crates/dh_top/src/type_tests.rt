@@ -218,8 +218,11 @@ let x = True in [ x, False ] ~> sha256:45083589cc6cf121bd046a62457da5a4918c22cc5
 
 #[test]
 fn limits_of_types_and_forms_are_named(rt: HostRuntime) -> Result<(), Fail> {
+    // The value of a `let` that is not used, and a type that can be written but whose own typing meets the limit: that of an element
+    // of a list is asked for its universe, and `f 1` has the type `Q (1 + 340282366920938463463374607431768211455)`.
     let wide =
-        r#"let z = 340282366920938463463374607431768211455 + 1 in 1 ~> number or literal too wide"#;
+        r#"let z = 340282366920938463463374607431768211455 + 1 in 1 ~> number or literal too wide
+\(Q : Natural -> Type) -> \(f : forall (n : Natural) -> Q (n + 340282366920938463463374607431768211455)) -> \(mk : forall (n : Natural) -> f n === f n) -> [ mk 1 ] ~> number or literal too wide"#;
     runs(&rt, rt.alloc(), "type", Status::Limit, wide)?;
     runs(&rt, rt.alloc(), "hash", Status::Limit, wide)?;
     runs(
