@@ -1,11 +1,13 @@
 #!/usr/bin/env python3
-"""Times the built program on named inputs of growing size.
+"""Times the built program on named inputs and graphs of imports of growing size.
 
-For each input and size it prints the time of a run, its greatest memory, and the time beside that of the size before. The least
-of a few runs counts, since other work on the machine only adds. Plain Python 3, some minutes.
+For each input and size it prints the time of a run, its greatest memory, and the time beside that of the size before; for a
+graph that for each number of workers, and the time beside that of one worker. The least of a few runs counts, since other work
+on the machine only adds. Plain Python 3, some minutes for the inputs, and some for the graphs.
 """
 import argparse
 import os
+import random
 import subprocess
 import sys
 import tempfile
@@ -14,13 +16,13 @@ import time
 ROOT = os.path.dirname(os.path.dirname(os.path.abspath(__file__)))
 
 
-def run(program, words, data):
-    """The time in seconds, the memory in MB, the status, both outputs."""
+def run(program, words, data, folder=None):
+    """The time in seconds, the memory in MB, the status, both outputs, of a run in a folder."""
     with tempfile.TemporaryFile() as inp, tempfile.TemporaryFile() as out, tempfile.TemporaryFile() as err:
         inp.write(data)
         inp.seek(0)
         began = time.monotonic()
-        child = subprocess.Popen([program, *words], stdin=inp, stdout=out, stderr=err)
+        child = subprocess.Popen([program, *words], stdin=inp, stdout=out, stderr=err, cwd=folder)
         _, status, used = os.wait4(child.pid, 0)
         took = time.monotonic() - began
         child.returncode = os.waitstatus_to_exitcode(status)
@@ -165,6 +167,91 @@ def doubled_types(n):
     return text + f"in \\(x : t{n - 1}) -> (x : t{n - 1}).a"
 
 
+# ---- graphs of imports: the text of the root, and each file's name and text in turn, so that this script itself stays small
+
+SERVICES = (
+    "let map = \\(a : Type) -> \\(b : Type) -> \\(f : a -> b) -> \\(xs : List a) ->\n"
+    "      List/build b (\\(list : Type) -> \\(cons : b -> list -> list) -> List/fold a xs list (\\(x : a) -> cons (f x)))\n"
+    "let sum = \\(xs : List Natural) -> List/fold Natural xs Natural (\\(x : Natural) -> \\(y : Natural) -> x + y) 0\n"
+    "let Port = { name : Text, number : Natural, open : Bool }\n"
+    "let Service = { name : Text, host : Text, ports : List Port, replicas : Natural, limits : { cpu : Natural, memory : Natural } }\n"
+    "let defaults = { replicas = 1, limits = { cpu = 100, memory = 256 } }\n"
+    "let port = \\(name : Text) -> \\(number : Natural) -> { name, number, open = Natural/even number } : Port\n"
+    "let service = \\(name : Text) -> \\(base : Natural) -> \\(replicas : Natural) ->\n"
+    "      let host = \"${name}.example.org\"\n"
+    "      in  defaults // { name, host, ports = [ port \"http\" base, port \"admin\" (base + 1) ], replicas } : Service\n"
+    "let services =\n"
+)
+
+SERVICES_END = (
+    "let cpu = map Service Natural (\\(s : Service) -> s.replicas * s.limits.cpu) services\n"
+    "let numbers = map Service (List Natural) (\\(s : Service) -> map Port Natural (\\(p : Port) -> p.number) s.ports) services\n"
+    "let small = \\(s : Service) -> if Natural/isZero (Natural/subtract 4 s.replicas) then 1 else 0\n"
+    "in  { name = \"group {i}\", cpu = sum cpu, ports = sum (map (List Natural) Natural sum numbers)\n"
+    "    , small = sum (map Service Natural small services), count = List/length Service services }\n"
+)
+
+
+def services(i):
+    """Ordinary code of 10 KB, whose value is a small record: its work is typing and normalising, not its size."""
+    lines = []
+    size = len(SERVICES) + len(SERVICES_END)
+    while size < 10000:
+        j = len(lines)
+        line = f"service \"web-{i}-{j}\" {8000 + 10 * j + i % 7} {1 + (i + j) % 9}"
+        if j % 3 == 0:
+            line += f" // {{ limits = {{ cpu = {50 * (1 + j % 4)}, memory = {128 + i % 64} }} }}"
+        lines.append(("      [ " if j == 0 else "      , ") + line + "\n")
+        size += len(lines[-1])
+    return SERVICES + "".join(lines) + "      ]\n" + SERVICES_END.replace("{i}", str(i))
+
+
+def items(imports):
+    return "[ " + "\n, ".join(imports) + " ]\n"
+
+
+def fan(n):
+    return items(f"./f{i}.dhall" for i in range(n)), ((f"f{i}.dhall", services(i)) for i in range(n))
+
+
+def chain(n):
+    def link(i):
+        return f"let rest = ./c{i + 1}.dhall in rest // {{ length = rest.length + 1, last = Natural/even rest.length }}\n"
+
+    end = "{ name = \"end\", length = 1, last = True }\n"
+    return "./c0.dhall\n", ((f"c{i}.dhall", link(i) if i < n - 1 else end) for i in range(n))
+
+
+def tower(n):
+    """n levels of two files, each of which imports both of the level below; so there are 2^n ways down."""
+
+    def both(i):
+        return "1\n" if i == 0 else f"./l{i - 1}.dhall + ./r{i - 1}.dhall\n"
+
+    return both(n), ((f"{side}{i}.dhall", both(i)) for i in range(n) for side in "lr")
+
+
+def tangle(n):
+    """Each file imports up to three later ones, and the root those that no file imports; the same graph each time."""
+    chance = random.Random(n)
+    later = [chance.sample(range(i + 1, n), min(chance.randint(0, 3), n - 1 - i)) for i in range(n)]
+    imported = {j for js in later for j in js}
+
+    def text(i):
+        total = " + ".join([str(i)] + [f"./r{j}.dhall" for j in later[i]])
+        return f"let parity = \\(x : Natural) -> if Natural/even x then 1 else 2 in parity ({total})\n"
+
+    return items(f"./r{i}.dhall" for i in range(n) if i not in imported), ((f"r{i}.dhall", text(i)) for i in range(n))
+
+
+def choices(n):
+    return items(f"(./missing{i}.dhall ? ./x{i}.dhall)" for i in range(n)), ((f"x{i}.dhall", f"{i}\n") for i in range(n))
+
+
+def choice(n):
+    return items(["(./missing.dhall ? ./x.dhall)"] * n), [("x.dhall", "1\n")]
+
+
 TEXTS = [
     ("sum in brackets", brackets, [10240, 20480, 40960]),
     ("record", record, [5000, 10000, 20000, 40000]),
@@ -203,6 +290,25 @@ TYPED = [
     ("types that share their parts", doubled_types, [5, 10, 15]),
 ]
 
+GRAPHS = [
+    ("fan of n files of 10 KB", fan, [500, 1000, 2000]),
+    ("chain of n files", chain, [125, 250, 500]),
+    ("tower of n levels", tower, [3, 6, 12]),
+    ("random graph of n files", tangle, [1000, 2000, 4000]),
+    ("fan of n choices, each of its own", choices, [500, 1000, 2000]),
+    ("fan of n choices, all the same", choice, [500, 1000, 2000]),
+]
+
+WORKERS = [1, 2, 4, 8]
+
+
+def note(ran):
+    return ran[4].decode().strip() or ran[3][:24].decode(errors="replace").strip()
+
+
+def ratio(time, other):
+    return "" if other is None else f"{time / other:5.2f}"
+
 
 def show(program, command, name, sizes, make, tries):
     before = None
@@ -210,19 +316,54 @@ def show(program, command, name, sizes, make, tries):
         data = make(size)
         ran = min((run(program, [command], data) for _ in range(tries)), key=lambda r: r[0])
         growth = "" if before is None else f"{ran[0] / before:5.1f}"
-        note = ran[4].decode().strip() or ran[3][:24].decode(errors="replace").strip()
-        print(f"| {command} | {name} | {size} | {len(data)} | {ran[0]:.3f} | {ran[1]:.0f} | {growth} | {ran[2]} {note} |", flush=True)
+        print(f"| {command} | {name} | {size} | {len(data)} | {ran[0]:.3f} | {ran[1]:.0f} | {growth} | {ran[2]} {note(ran)} |", flush=True)
         before = ran[0]
 
 
-def main():
-    parser = argparse.ArgumentParser(description=__doc__.splitlines()[0])
-    parser.add_argument("--program", default=os.path.join(ROOT, "crates", "dhall", "out", "dhall"))
-    parser.add_argument("--command", help="only this command")
-    parser.add_argument("--tries", type=int, default=3)
-    given = parser.parse_args()
-    if not os.access(given.program, os.X_OK):
-        sys.exit(f"no program at {given.program}: build it first (make build)")
+def write(folder, graph):
+    """The root of a graph, whose files are written into the folder, and the length of all together."""
+    os.makedirs(folder, exist_ok=True)
+    root, files = graph
+    length = len(root)
+    for name, text in files:
+        length += len(text)
+        with open(os.path.join(folder, name), "w") as out:
+            out.write(text)
+    return root.encode(), length
+
+
+def show_graph(program, command, name, sizes, make, workers, tries, folder):
+    before = {}
+    for size in sizes:
+        place = os.path.join(folder, f"{make.__name__}-{size}")
+        root, length = write(place, make(size))
+        one = None
+        for w in workers:
+            words = [command, "--workers", str(w)]
+            ran = min((run(program, words, root, place) for _ in range(tries)), key=lambda r: r[0])
+            growth = ratio(ran[0], before.get(w))
+            one = ran[0] if w == 1 else one
+            beside = ratio(ran[0], one)
+            print(
+                f"| {command} | {name} | {size} | {length} | {w} | {ran[0]:.3f} | {ran[1]:.0f} | {growth} | {beside} | {ran[2]} {note(ran)} |",
+                flush=True,
+            )
+            before[w] = ran[0]
+
+
+def show_graphs(given, folder):
+    print("| Command | Graph | Size | Bytes in | Workers | Seconds | MB | Growth | To one worker | Ends with |")
+    print("|---|---|---|---|---|---|---|---|---|---|")
+    for name, make, sizes in GRAPHS:
+        if given.command in (None, "normalize"):
+            show_graph(given.program, "normalize", name, sizes, make, WORKERS, given.tries, folder)
+    for command in ["resolve", "type", "hash"]:
+        if given.command in (None, command):
+            name, make, sizes = GRAPHS[0]
+            show_graph(given.program, command, name, sizes, make, [4], given.tries, folder)
+
+
+def show_inputs(given):
     print("| Command | Input | Size | Bytes in | Seconds | MB | Growth | Ends with |")
     print("|---|---|---|---|---|---|---|---|")
     for name, make, sizes in TEXTS:
@@ -238,6 +379,26 @@ def main():
         if given.command in (None, command):
             for name, make, sizes in TYPED:
                 show(given.program, command, name, sizes, lambda n: make(n).encode(), given.tries)
+
+
+def main():
+    parser = argparse.ArgumentParser(description=__doc__.splitlines()[0])
+    parser.add_argument("--program", default=os.path.join(ROOT, "crates", "dhall", "out", "dhall"))
+    parser.add_argument("--command", help="only this command")
+    parser.add_argument("--tries", type=int, default=3)
+    parser.add_argument("--part", choices=["inputs", "graphs"], help="only the inputs alone, or only the graphs of imports")
+    parser.add_argument("--folder", help="where the files of the graphs are written (left out: a folder that is removed)")
+    given = parser.parse_args()
+    given.program = os.path.abspath(given.program)
+    if not os.access(given.program, os.X_OK):
+        sys.exit(f"no program at {given.program}: build it first (make build)")
+    if given.part != "graphs":
+        show_inputs(given)
+    if given.part != "inputs" and given.folder:
+        show_graphs(given, os.path.abspath(given.folder))
+    elif given.part != "inputs":
+        with tempfile.TemporaryDirectory() as folder:
+            show_graphs(given, folder)
 
 
 if __name__ == "__main__":

@@ -8,3 +8,4 @@ pub mod Skipping
 pub mod Visiting
 pub mod Wanting
 pub mod Ways
+mod Behind

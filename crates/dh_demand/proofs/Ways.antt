@@ -1,6 +1,6 @@
 -- The way into a text of a path in the text with its values.
-use Rattle.std.specs.Prelude.{◌≡◌, ◌<◌, ◌≤◌, ℕ, zero, suc, ◌+◌, ◌-◌, ◌++◌, List, [], ◌∷◌, length, drop, Option, Result, Ok, Err, OnOk, refl}
-use Rattle.std.proofs.Common.{ap, sym, ◌∙◌, subst, arith, get_or, append-nil}
+use Rattle.std.specs.Prelude.{◌≡◌, ◌<◌, ◌≤◌, ℕ, suc, ◌+◌, ◌++◌, List, [], ◌∷◌, length, drop, Option, Result, Ok, Err, OnOk, refl}
+use Rattle.std.proofs.Common.{ap, sym, ◌∙◌, subst, get_or, append-nil}
 use Rattle.std.proofs.lemmas.List.{append_assoc}
 use Rattle.dh_syntax.specs.declared.expressions.Expr.{Expr}
 use Rattle.dh_syntax.specs.declared.expressions.Expr.TheVariants as expr

@@ -5,3 +5,4 @@ pub mod Walking
 pub mod Marking
 pub mod Building
 pub mod Comparing
+pub mod Here

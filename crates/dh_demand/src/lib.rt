@@ -16,6 +16,7 @@
 mod assembling;
 mod comparing;
 mod ends;
+mod freezing;
 mod key_lists;
 mod marks;
 mod nexts;
@@ -30,6 +31,7 @@ mod wants;
 pub use assembling::assemble;
 pub use comparing::is_assembled;
 pub use ends::Next;
+pub use freezing::keys_behind;
 pub use key_lists::import_keys;
 pub use marks::Marks;
 pub use nexts::next;

@@ -75,7 +75,7 @@ pub(crate) fn next_in<'a, R: Results>(
 
 // What comes next in the parts of a node.
 #[cycle(next)]
-fn next_in_kids<'a, R: Results>(
+pub(crate) fn next_in_kids<'a, R: Results>(
     kids: &Kids,
     edges: &'a [Edge],
     parent: Option<&Loc>,

@@ -100,5 +100,7 @@ fn a_text_without_imports_is_ready(rt: HostRuntime) -> Result<(), Fail> {
     assert!(rt; !is_assembled(&scan, &results, &other));
     let way = text_path(alloc, &scan, None, &results, &[2, 1])?;
     assert_eq!(rt; way.as_slice(), [2].as_slice());
+    let behind = keys_behind(alloc, &scan, &results)?;
+    assert!(rt; behind.is_empty());
     Ok(())
 }

@@ -1,3 +1,2 @@
 pub mod AnswerExamples
 pub mod ImportFaultExamples
-pub mod LeftOutExamples

@@ -1,3 +1,4 @@
+pub mod FreezingExamples
 pub mod ImportExamples
 pub mod LocationExamples
 pub mod MachineExamples

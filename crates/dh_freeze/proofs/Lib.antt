@@ -1,1 +1,7 @@
-pub mod FreezingLaws
+mod Counting
+mod FormLengths
+mod Frozen
+mod ImportNumbers
+mod ImportOffsets
+mod Pairing
+mod TokenEnds

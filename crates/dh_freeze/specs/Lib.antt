@@ -1,1 +1,3 @@
-pub mod Freezing
+pub mod Distinct
+pub mod Insertions
+pub mod Inside

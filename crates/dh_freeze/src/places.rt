@@ -1,40 +1,75 @@
 //! Where digests are inserted.
 
-ghost use Rattle.std.specs.Prelude.{◌≡◌, ◌↔◌, IsTrue, length};
-ghost use Rattle.dh_freeze.specs.Freezing.{ArePlaces};
+ghost use Rattle.std.specs.Prelude.{◌≡◌, ◌↔◌, ◌++◌, Some, IfOk, OnOk};
+ghost use Rattle.dh_syntax.specs.Command.FrozenTexts.{Ascend, Insertion, side_by_side};
+ghost use Rattle.dh_syntax.specs.Imports.Machine.{IsAmong};
+ghost use Rattle.dh_freeze.specs.Distinct.{AreDistinct};
+ghost use Rattle.dh_freeze.specs.Insertions.{insertions};
+ghost use Rattle.dh_freeze.specs.Inside.Pairs.{paired, place_at};
 
 use dh_syntax::{Digest, Many};
+use std::alloc::{AllocError, Global};
 
 /// A digest, and the offset in the text that it is inserted at.
-#[derive(Clone, Copy, Debug, PartialEq, Eq)]
+#[derive(Clone, Copy, Debug, Drop, PartialEq, Eq)]
 pub struct Place {
     pub offset: u32,
     pub digest: Digest,
 }
 
-/// Places by strictly ascending offset.
+/// Places by ascending offset.
 pub type Places = Many<Place>;
 
-/// Whether the offsets ascend strictly from a number on, and none is beyond the end.
-fn ascend_from(from: u64, end: usize, places: &[Place]) -> bool
-    ensures { IsTrue result ↔ ArePlaces from end places.now }
+/// The digests, each at the offset beside it, by ascending offset. An offset without a digest is left out.
+pub fn places_behind(
+    alloc: Global,
+    offsets: &[u32],
+    digests: &[Option<Digest>],
+) -> Result<Places, AllocError>
+    ensures members { IfOk result (λ ps. (p : Insertion) → IsAmong p (insertions ps) ↔ IsAmong (p.0, Some p.1) (side_by_side offsets.now digests.now)) }
+    ensures ascend { IfOk result (λ ps. AreDistinct offsets.now → Ascend 0 (insertions ps)) }
 {
-    let mut least = from;
-    let mut left = places;
-    while let Some((place, rest)) = left.split_first() {
-        let offset = place.offset;
-        if u64::from(offset) < least || u64::from(offset) > end as u64 {
-            return false;
-        }
-        least = u64::from(offset) + 1;
-        left = rest;
-    }
-    true
+    let mut places = pairs(alloc, offsets, digests)?;
+    places.sort_by_key(|place| place.offset)?;
+    Ok(Places::of(places))
 }
 
-/// Whether the offsets ascend strictly, and none is beyond the end of the text: the condition of `freeze`.
-pub fn are_places(text: &[u8], places: &Places) -> bool
-    ensures { IsTrue result ↔ ArePlaces 0 (length text.now) places.now }
+// The digests, each at the offset beside it.
+fn pairs(
+    alloc: Global,
+    offsets: &[u32],
+    digests: &[Option<Digest>],
+) -> Result<Vec<Place>, AllocError>
+    ensures { IfOk result (λ ps. ps.items ≡ paired offsets.now digests.now) }
 {
-    ascend_from(0, text.len(), places.as_slice())
+    let mut places = Vec::new(alloc);
+    let mut left = offsets;
+    let mut right = digests;
+    while let Some((offset, others)) = left.split_first() {
+        let Some((digest, rest)) = right.split_first() else {
+            return Ok(places);
+        };
+        push_place(&mut places, *offset, digest)?;
+        left = others;
+        right = rest;
+    }
+    Ok(places)
+}
+
+// Adds a digest, if there is one, at an offset.
+fn push_place(
+    places: &mut Vec<Place>,
+    offset: u32,
+    digest: &Option<Digest>,
+) -> Result<(), AllocError>
+    ensures { OnOk result (places.new.items ≡ places.old.items ++ place_at offset digest.now) }
+{
+    match digest {
+        Some(digest) => {
+            let digest = *digest;
+            places.push(Place { offset, digest })?;
+            Ok(())
+        }
+        None => Ok(()),
+    }
 }

@@ -1,6 +1,6 @@
-//! The texts that `freeze` makes, written out by hand.
+//! The texts that freezing makes, written out by hand.
 
-use crate::{Place, Places, are_places, freeze};
+use crate::{Place, Places, freeze, frozen_text};
 use dh_syntax::Digest;
 use std::test::Fail;
 
@@ -29,33 +29,24 @@ fn inserts_digests_and_nothing_else(rt: HostRuntime) -> Result<(), Fail> {
     let wanted = format!(in alloc;
         "[./a sha256:{ONE_DIGITS} , ./b sha256:{F_DIGITS} as Text] -- x"
     )?;
-    if !are_places(text.as_bytes(), &places) {
-        return Err(Fail::from("no places"));
-    }
     let frozen = freeze(alloc, text.as_bytes(), &places)?;
     assert_eq!(rt; frozen.as_slice(), wanted.as_str().as_bytes());
     Ok(())
 }
 
 #[test]
-fn knows_places(rt: HostRuntime) -> Result<(), Fail> {
+fn each_digest_stands_behind_its_import(rt: HostRuntime) -> Result<(), Fail> {
     let alloc = rt.alloc();
-    let rows: [(&[u32], bool); 5] = [
-        (&[], true),
-        (&[0, 3], true),
-        (&[1, 1], false),
-        (&[2, 1], false),
-        (&[4], false),
-    ];
-    for (offsets, wanted) in rows {
-        let mut places = Places::new(alloc);
-        for offset in offsets {
-            places.push(Place {
-                offset: *offset,
-                digest: ONES,
-            })?;
-        }
-        assert_eq!(rt; are_places(b"abc", &places), wanted);
-    }
+    // The fields of the record are in the order of their labels, so the offsets descend.
+    let text = "{ b = ./b, a = ./a, c = missing }\n";
+    let offsets: [u32; 3] = [18, 9, 31];
+    let digests = [Some(ONES), Some(FS), None];
+    let wanted = format!(in alloc;
+        "{{ b = ./b sha256:{F_DIGITS}, a = ./a sha256:{ONE_DIGITS}, c = missing }}\n"
+    )?;
+    let frozen = frozen_text(alloc, text.as_bytes(), &offsets, &digests)?;
+    assert_eq!(rt; frozen.as_slice(), wanted.as_str().as_bytes());
+    let same = frozen_text(alloc, text.as_bytes(), &offsets, &[None; 3])?;
+    assert_eq!(rt; same.as_slice(), text.as_bytes());
     Ok(())
 }

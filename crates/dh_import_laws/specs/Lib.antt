@@ -1,2 +1,5 @@
 pub mod Blames
+pub mod Failures
 pub mod ImportLaws
+pub mod Paths
+pub mod Recorded

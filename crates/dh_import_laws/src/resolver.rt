@@ -1,5 +1,6 @@
 //! Laws of the resolver of imports.
 ghost use Rattle.dh_import_laws.specs.ImportLaws.{OneOutcome, MoreToSpend, MoreRecorded, CodeComesOf, CodeComes, OneOutcomeOfCode, OneListOfKeeps};
+ghost use Rattle.dh_import_laws.specs.Paths.{ValuesByLocation, PathsByLocation, OnePath};
 
 /// The resolver gives a key one outcome.
 pub fn one_outcome()
@@ -27,4 +28,15 @@ pub fn code_comes_of()
 /// A run whose root is ready keeps one list of cache entries.
 pub fn one_list_of_keeps()
     ensures { OneListOfKeeps }
+{}
+
+/// The value of a text and the ways back into the text are the same under each key of its location.
+pub fn paths_by_location()
+    ensures values { ValuesByLocation }
+    ensures paths { PathsByLocation }
+{}
+
+/// By whichever of the resolver's outcomes a text has a value, it has the same value, and the ways back into it are the same.
+pub fn one_path()
+    ensures { OnePath }
 {}

@@ -1,6 +1,8 @@
 //! Laws of the table that workers share.
 ghost use Rattle.dh_import_laws.specs.Blames.{FaultsStand, RootFaultsStand};
+ghost use Rattle.dh_import_laws.specs.Failures.{FailuresAreRecorded, RootFailuresAreRecorded};
 ghost use Rattle.dh_import_laws.specs.ImportLaws.{OutcomesAreResolved, RootIsResolved, VisitsAreResolved, GoesOn, FetchesAreWanted, FrozenLeadAfterLooks, InFlightOnce, InFlightUnrecorded, InFlightDue, OutcomesStay, RootStays, TooManyStay, TextsAreParsed, EntriesAreGood, LimitsAreLicensed};
+ghost use Rattle.dh_import_laws.specs.Recorded.{TextsAreRecordedOnce, LooksAreRecordedOnce};
 
 /// After every history each outcome, and the end of the root, is the resolver's over the record; at a ready root so are
 /// the visited keys.
@@ -47,4 +49,16 @@ pub fn records_are_true()
 pub fn faults_stand_in_texts()
     ensures keys { FaultsStand }
     ensures root { RootFaultsStand }
+{}
+
+/// Where a failed device decides a key or the root, a failure is recorded at some location.
+pub fn failures_are_recorded()
+    ensures keys { FailuresAreRecorded }
+    ensures root { RootFailuresAreRecorded }
+{}
+
+/// No location and no digest is recorded twice.
+pub fn recorded_once()
+    ensures texts { TextsAreRecordedOnce }
+    ensures looks { LooksAreRecordedOnce }
 {}

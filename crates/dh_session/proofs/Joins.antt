@@ -9,7 +9,7 @@ use Rattle.dh_shared.specs.Held.{Held, none_held, sum_held}
 use Rattle.dh_session.specs.Works.{AtLast}
 use Rattle.dh_session.specs.Inside.{Goes}
 use Rattle.dh_shared.specs.Closed.{Closes}
-use Rattle.dh_session.specs.Ended.{Ends, AsksAll, FailsAll}
+use Rattle.dh_session.specs.Ended.{Ends, AsksAll, FailsAll, NoneFell, none_left, more_left}
 use Rattle.dh_session.proofs.Rises.{Sums, One, sums_rise}
 use Rattle.dh_table.specs.Calls.{failures}
 use Rattle.dh_table.specs.Shown.{Shown}
@@ -70,6 +70,25 @@ pub stays : {P D A : Type 0} (f : D → A) (desk : P → D) (xs ys : List P) (le
     → map desk xs ++ left ≡ before → after ≡ map desk ys ++ left → length ys ≡ length xs
     → ((i : ℕ) (d : P) → i < length xs → f (desk (get_or ys i d)) ≡ f (desk (get_or xs i d))) → map f after ≡ map f before
 stays f desk xs ys left before after was is len each = ap (λ ds. map f ds) is ∙ stays_beside f desk left xs ys len each ∙ ap (λ ds. map f ds) was
+
+-- no count fell of those that stay, nor of those of which none fell
+none_fell_itself : (ns : List ℕ) → NoneFell ns ns
+none_fell_itself [] = none_left
+none_fell_itself (n ∷ ns) = more_left (omega arith) (none_fell_itself ns)
+
+none_fell_beside : {P D : Type 0} (f : D → ℕ) (desk : P → D) (left : List D) (xs ys : List P) → length ys ≡ length xs
+    → ((i : ℕ) (d : P) → i < length xs → f (desk (get_or xs i d)) ≤ f (desk (get_or ys i d))) → NoneFell (map f (map desk xs ++ left)) (map f (map desk ys ++ left))
+none_fell_beside f desk left [] [] len each = none_fell_itself (map f left)
+none_fell_beside f desk left [] (y ∷ ys) len each = absurd (omega arith)
+none_fell_beside f desk left (x ∷ xs) [] len each = absurd (omega arith)
+none_fell_beside f desk left (x ∷ xs) (y ∷ ys) len each =
+    more_left (each 0 x (omega arith)) (none_fell_beside f desk left xs ys (omega arith) (λ i d lt. each (suc i) d (omega arith)))
+
+pub none_fell : {P D : Type 0} (f : D → ℕ) (desk : P → D) (xs ys : List P) (left before after : List D)
+    → map desk xs ++ left ≡ before → after ≡ map desk ys ++ left → length ys ≡ length xs
+    → ((i : ℕ) (d : P) → i < length xs → f (desk (get_or xs i d)) ≤ f (desk (get_or ys i d))) → NoneFell (map f before) (map f after)
+none_fell f desk xs ys left before after was is len each =
+    subst (λ b. NoneFell (map f b) (map f after)) was (subst (λ a. NoneFell (map f (map desk xs ++ left)) (map f a)) (sym is) (none_fell_beside f desk left xs ys len each))
 
 -- every worker ended well, so the root is decided and the counts of the desks are those of the history
 pub ends : {P D S : Type 0} (ask fault : D → ℕ) (filed : D → Option (List (Digest × List ℕ))) (desk : P → D) (seat : P → S) (shares : S → Held) (done : P → Bool)

@@ -1,5 +1,5 @@
 -- What is known of a table and of the desks where every worker found the run over.
-use Rattle.std.specs.Prelude.{◌≡◌, ◌⊎◌, ℕ, ◌+◌, ◌≤◌, List, Any, IsSome, sum_by, count_by}
+use Rattle.std.specs.Prelude.{◌≡◌, ◌⊎◌, ℕ, ◌+◌, ◌≤◌, List, [], ◌∷◌, Any, IsSome, sum_by, count_by}
 use Rattle.dh_syntax.specs.Imports.Replay.{root_end}
 use Rattle.dh_table.specs.Calls.{failures}
 use Rattle.dh_table.specs.Shown.{Shown}
@@ -14,6 +14,11 @@ AsksAll asked before after table = Any (λ d. AtLast (asked d)) after ⊎ (sum_b
 -- each text and each look that is recorded as failed is a fault of a desk, unless a count stands at its last value
 abbrev pub FailsAll : {D : Type 0} → (D → ℕ) → List D → List D → Shown → Type 0
 FailsAll faults before after table = Any (λ d. AtLast (faults d)) after ⊎ (failures (state_of table) + sum_by faults before ≤ sum_by faults after)
+
+-- no count of these fell
+pub data NoneFell : List ℕ → List ℕ → Type 0 where
+  none_left : NoneFell [] []
+  more_left : {m n : ℕ} {ms ns : List ℕ} → m ≤ n → NoneFell ms ns → NoneFell (m ∷ ms) (n ∷ ns)
 
 -- how a run ends, with these counts of its desks before and after
 pub record Ends {D : Type 0} (asked faults : D → ℕ) (before after : List D) (table : Shown) : Type 0 where

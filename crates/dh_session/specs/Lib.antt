@@ -1,4 +1,3 @@
 pub mod Ended
 pub mod Inside
-pub mod ResolvesTo
 pub mod Works

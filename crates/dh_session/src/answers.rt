@@ -2,10 +2,10 @@
 
 ghost use Rattle.std.specs.Prelude.{◌≡◌, map, IsSome, IfOk, IfErr, IfSome};
 ghost use Rattle.dh_syntax.specs.Imports.Replay.{root_end};
+ghost use Rattle.dh_syntax.specs.Imports.RootEnds.{EndsBy};
 ghost use Rattle.dh_table.specs.Kept.{IsKeeping, pair_of};
 ghost use Rattle.dh_table.specs.Roots.{IsEnd, IsFitEnd};
 ghost use Rattle.dh_table.specs.States.{state_of};
-ghost use Rattle.dh_session.specs.ResolvesTo.{ResolvesTo};
 
 use dh_ports::{Cache, World};
 use dh_table::{Ended, OpenFault, Table};
@@ -62,7 +62,7 @@ pub(crate) fn answer_of<W: World>(
     requires { IsSome (root_end (state_of table)) }
     ensures same { IfOk result (λ a. a.table ≡ table) }
     ensures ended { IfOk result (λ a. IfSome (root_end (state_of a.table)) (λ end. IsEnd end a.ended)) }
-    ensures resolved { IfOk result (λ a. IfSome (root_end (state_of a.table)) (ResolvesTo (state_of a.table) (state_of a.table).root)) }
+    ensures resolved { IfOk result (λ a. IfSome (root_end (state_of a.table)) (EndsBy (state_of a.table).recorded (state_of a.table).root)) }
     ensures fits { IfOk result (λ a. IsFitEnd (state_of a.table).root a.ended) }
     ensures keeps { IfOk result (λ a. IsKeeping (state_of a.table) (root_end (state_of a.table)) (map pair_of a.keeps)) }
     ensures memory { IfErr result (λ f. f ≡ SessionFault.Memory) }

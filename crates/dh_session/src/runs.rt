@@ -4,13 +4,13 @@ ghost use Rattle.std.specs.Prelude.{◌≡◌, ℕ, ◌≤◌, ◌<◌, [], true
 ghost use Rattle.dh_syntax.specs.Expressions.Bridge.{term};
 ghost use Rattle.dh_syntax.specs.Imports.Machine.{opening};
 ghost use Rattle.dh_syntax.specs.Imports.Replay.{has_too_many, root_end};
+ghost use Rattle.dh_syntax.specs.Imports.RootEnds.{EndsBy};
 ghost use Rattle.dh_table.specs.Calls.{failures};
 ghost use Rattle.dh_table.specs.Kept.{IsKeeping, pair_of};
 ghost use Rattle.dh_table.specs.Roots.{IsEnd, IsFitEnd};
 ghost use Rattle.dh_table.specs.States.{state_of};
-ghost use Rattle.dh_session.specs.Ended.{Ends};
+ghost use Rattle.dh_session.specs.Ended.{Ends, NoneFell};
 ghost use Rattle.dh_session.specs.Inside.{Goes};
-ghost use Rattle.dh_session.specs.ResolvesTo.{ResolvesTo};
 
 use crate::answers::{Answered, SessionFault, answer_of};
 use crate::places::{Place, all_done, seat_desks, stand_again};
@@ -152,6 +152,7 @@ fn run<
     ensures count { vec_len desks.new ≡ vec_len desks.old }
     ensures filed { map (λ d. D.filed d) desks.new.items ≡ map (λ d. D.filed d) desks.old.items }
     ensures root { IfOk result (λ t. t.root.expr ≡ Q.root) }
+    ensures counted { IfOk result (λ t. NoneFell (map (λ d. D.faults d) desks.old.items) (map (λ d. D.faults d) desks.new.items)) }
     ensures ends { IfOk result (λ t. Ends (λ d. D.asked d) (λ d. D.faults d) desks.old.items desks.new.items t) }
 {
     let (shared, seats) = SharedTable::<W, Q, C, K, R, L, F, X, O>::open(
@@ -190,9 +191,10 @@ pub fn resolve_all<
     ensures count { vec_len desks.new ≡ vec_len desks.old }
     ensures filed { map (λ d. D.filed d) desks.new.items ≡ map (λ d. D.filed d) desks.old.items }
     ensures root { IfOk result (λ a. (state_of a.table).root ≡ term root) }
+    ensures counted { IfOk result (λ a. NoneFell (map (λ d. D.faults d) desks.old.items) (map (λ d. D.faults d) desks.new.items)) }
     ensures ends { IfOk result (λ a. Ends (λ d. D.asked d) (λ d. D.faults d) desks.old.items desks.new.items a.table) }
     ensures ended { IfOk result (λ a. IfSome (root_end (state_of a.table)) (λ end. IsEnd end a.ended)) }
-    ensures resolved { IfOk result (λ a. IfSome (root_end (state_of a.table)) (ResolvesTo (state_of a.table) (term root))) }
+    ensures resolved { IfOk result (λ a. IfSome (root_end (state_of a.table)) (EndsBy (state_of a.table).recorded (term root))) }
     ensures fits { IfOk result (λ a. IsFitEnd (term root) a.ended) }
     ensures keeps { IfOk result (λ a. IsKeeping (state_of a.table) (root_end (state_of a.table)) (map pair_of a.keeps)) }
     ensures few { IfOk result (λ a. has_too_many (opening (term root)) ≡ false) }

@@ -1,7 +1,8 @@
 pub mod Answer
 pub mod FaultLines
+pub mod FrozenTexts
 pub mod ImportFaults
-pub mod LeftOut
 pub mod PlacedFaults
 pub mod Statuses
+pub mod Telling
 pub mod Words

@@ -1,3 +1,4 @@
+pub mod Freezing
 pub mod HonestCache
 pub mod Keeps
 pub mod Keys
@@ -5,6 +6,7 @@ pub mod LastStep
 pub mod Locations
 pub mod Machine
 pub mod Outcomes
+pub mod Readings
 pub mod Records
 pub mod Replay
 pub mod Resolver

@@ -10,12 +10,20 @@ pub enum Verb {
     Encode,
     /// The printed text of the expression that the input is the binary form of.
     Decode,
+    /// The expression that the input spells, with a value for each import, printed.
+    Resolve,
     /// The printed type of the expression that the input spells.
     Type,
     /// The printed normal form of the expression that the input spells.
     Normalize,
     /// The digest of the normal form of the expression that the input spells.
     Hash,
+    /// The input with the digest of its value behind each import that has none.
+    Freeze,
+    /// What the commands and the exit statuses are.
+    Help,
+    /// The versions of the program and of the standard.
+    Version,
 }
 
 impl Verb {
@@ -24,7 +32,9 @@ impl Verb {
         ensures { result ≡ reads self }
     {
         match self {
-            Verb::Encode | Verb::Decode | Verb::Type | Verb::Normalize | Verb::Hash => true,
+            Verb::Encode | Verb::Decode | Verb::Resolve => true,
+            Verb::Type | Verb::Normalize | Verb::Hash | Verb::Freeze => true,
+            Verb::Help | Verb::Version => false,
         }
     }
 }

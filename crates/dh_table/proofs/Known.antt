@@ -1,5 +1,5 @@
 -- What is known from earlier searches: it serves a search, grows as keys are seen, and stays true through steps.
-use Rattle.std.specs.Prelude.{◌≡◌, ◌⊎◌, ◌<◌, ◌≤◌, ℕ, Bool, true, false, if◌then◌else◌, List, [], ◌∷◌, length, replicate, slice_set, Option, Some, None, is_none, IsSome, refl}
+use Rattle.std.specs.Prelude.{◌≡◌, ◌⊎◌, ◌<◌, ◌≤◌, ◌+◌, ℕ, Bool, true, false, if◌then◌else◌, List, [], ◌∷◌, length, slice_set, Option, Some, None, is_none, IsSome, refl}
 use Rattle.std.proofs.Common.{ap, sym, ◌∙◌, subst, arith, inl, inr}
 use Rattle.std.proofs.lemmas.Bool.Decides.{eqb_tells}
 use Rattle.std.proofs.lemmas.List.{get_or-set_same, get_or-set_other}
@@ -19,21 +19,23 @@ use Rattle.dh_import_laws.proofs.Facts.{Grows, step-grows}
 use Rattle.dh_import_laws.proofs.Grow.{Longer as Longer', longer-itself, OnWait, PlanGrown, StageGrown, StageTold, plan-grown, stage-grown, stage-told}
 use Rattle.dh_import_laws.proofs.Keep.{lawful-keeps}
 use Rattle.dh_import_laws.proofs.Plans.{among_wants, wanted-undecided}
-use Rattle.dh_demand.specs.Results.{ask_of, number_of}
+use Rattle.dh_demand.specs.Results.{Row, number_of}
 use Rattle.dh_demand.specs.Wants.{AreMarked}
 use Rattle.dh_table.specs.declared.steps.Flight.{Flight}
 use Rattle.dh_table.specs.declared.steps.Job.{Job}
+use Rattle.dh_table.specs.declared.steps.Kind.{Kind}
 use Rattle.dh_table.specs.declared.texts.Entrant.{Entrant}
 use Rattle.dh_table.specs.declared.texts.Look.{Look}
 use Rattle.dh_table.specs.declared.texts.Text.{Text}
 use Rattle.dh_table.specs.declared.visits.Reach.TheVariants as reaches
-use Rattle.dh_table.specs.Inside.Reading.{IsNumbered, IsReach, record_by}
-use Rattle.dh_table.specs.Inside.Searching.{AreKnown, IsExplored, IsFound, IsMarked, IsSeen, IsTaskAt, IsWaiting, Stands, is_set, number_at}
+use Rattle.dh_table.specs.Inside.Piling.{number_at}
+use Rattle.dh_table.specs.Inside.Reading.{IsReach}
+use Rattle.dh_table.specs.Inside.Searching.{AreKnown, IsDecided, IsFound, IsMarked, IsWaiting, is_set}
 use Rattle.dh_table.specs.States.{rows_of, key_named, task_of}
 use Rattle.dh_table.proofs.Courses.{IsMet, course_same, walk-met}
 use Rattle.dh_table.proofs.Reading.{number_names}
 use Rattle.dh_table.proofs.RootEnds.{no_end}
-use Rattle.dh_table.proofs.Seeing.{leads_stand, marked_kept, stage_stands, TaskAt, task_at}
+use Rattle.dh_table.proofs.Seeing.{leads_stand, marked_kept, stage_stands, task_at}
 
 -- ---- undecided keys
 
@@ -80,6 +82,23 @@ due_plan ask k y (Asks j) d m = due_bare j y (ask j) d m
 
 pub due_leads : (s : State) (k y : Key) → IsDue (stage_of s k) → IsAmong y (leads_to s k) → ⊥
 due_leads s k y d m = due_plan (outcome_of s) k y (plan s.recorded k) d m
+
+-- a key whose task is due leads to none
+due_of : (rows : List Row) (k : Key) (allow : Option (List ℕ)) (w : Walked Term) (kind : Kind) → IsReach rows k (of_walk allow w) (reaches.Due kind) → IsDue (of_walk allow w)
+due_of rows k allow (Ready e) kind r = tt
+due_of rows k allow (Fails b) kind r = tt
+due_of rows k allow (Turns j) kind r = tt
+due_of rows k allow (Needs y) kind r = r
+
+pub reach_leads : (ask : Ask) (rows : List Row) (k y : Key) (p : Plan) (kind : Kind) → IsReach rows k (of_plan ask k p) (reaches.Due kind) → IsAmong y (leads_by ask k p) → ⊥
+reach_leads ask rows k y (Unknown p) kind r m = m
+reach_leads ask rows k y (Now i) kind r m = m
+reach_leads ask rows k y (Walks e allow) kind r m = due_walk ask (Some k) e allow (walk (Some k) ask e) y (walk-met (Some k) ask e) (due_of rows k allow (walk (Some k) ask e) kind r) m
+reach_leads ask rows k y (Asks j) kind r m = go (ask j) r m
+  where
+    go : (o : Option Outcome) → IsReach rows k (of_bare j o) (reaches.Due kind) → IsAmong y (if is_none o then j ∷ [] else []) → ⊥
+    go None h n = h
+    go (Some o) h n = n
 
 -- ---- where a task is open the root is undecided
 
@@ -164,19 +183,29 @@ module _ (s s' : State) (g : GoesOn s s') where
       let a : StageGrown the-ask' (Waits y) (stage_of s' k) = subst (λ x. StageGrown the-ask' x (stage_of s' k)) e (stage-grown s.recorded s'.recorded g.grows.longer the-ask the-ask' g.grows.knows k) in
       subst (λ o. OnWait y (stage_of s' k) o) n a
 
-  -- the keys with their numbers, and the marks
-  module _ (es es' : List Entrant) (marks marks' waiting waiting' : List Bool) (blocking blocking' : List ℕ)
+  -- the keys with their numbers, the marks and the piles
+  module _ (es es' : List Entrant) (hole : ℕ → Type 0) (marks marks' : List Bool) (places places' : List ℕ)
       (numbers : (k : Key) (n : ℕ) → number_of (rows_of es) k ≡ Some n → number_of (rows_of es') k ≡ Some n)
       (longer : length es ≤ length es')
       (names : (n : ℕ) → n < length es → key_named es' n ≡ key_named es n)
-      (fewer : (n : ℕ) → is_set marks' n ≡ true → (is_set marks n ≡ true) × (n < length es → Wanted s (key_named es n) → outcome_of s' (key_named es n) ≡ None))
-      (left : (n : ℕ) → is_set marks n ≡ true → n < length es → outcome_of s' (key_named es n) ≡ None → is_set marks' n ≡ true)
-      (still : (n : ℕ) → is_set waiting' n ≡ true → (is_set waiting n ≡ true) × (IsWaiting s es marks n (number_at blocking n) → outcome_of s' (key_named es (number_at blocking n)) ≡ None))
-      (blocked : (n : ℕ) → number_at blocking' n ≡ number_at blocking n) where
-    marked_on : (k : Key) → IsMarked es marks k → outcome_of s' k ≡ None → IsMarked es' marks' k
-    marked_on k m u =
-        let i = number_names es k m.number m.number_is in
-        record { number = m.number; number_is = numbers k m.number m.number_is; set = left m.number m.set i.0 (subst (λ x. outcome_of s' x ≡ None) (sym i.1) u) }
+      (marks_are : (n : ℕ) → is_set marks' n ≡ is_set marks n)
+      (off : (n : ℕ) → number_at places' n ≡ 0 → number_at places n ≡ 0)
+      (on : (n : ℕ) → number_at places n ≡ 0 → number_at places' n ≡ 0)
+      (took : (n : ℕ) → number_at places' n ≡ 1 → number_at places n ≡ 1)
+      (still : (n m : ℕ) → number_at places' n ≡ m + 4 → (number_at places n ≡ m + 4) × (IsWaiting s es marks n m → outcome_of s' (key_named es m) ≡ None)) where
+    marked_on : (k : Key) → IsMarked es marks k → IsMarked es' marks' k
+    marked_on k m = record { number = m.number; number_is = numbers k m.number m.number_is; set = marks_are m.number ∙ m.set }
+
+    decided_on : (k : Key) → IsDecided s k → IsDecided s' k
+    decided_on k d u = d (before the-ask the-ask' g.grows.knows k u)
+
+    sound_on : (k : Key) → Wanted s k ⊎ IsDecided s k → Wanted s' k ⊎ IsDecided s' k
+    sound_on k (inl w) = go (outcome_of s' k) refl
+      where
+        go : (o : Option Outcome) → outcome_of s' k ≡ o → Wanted s' k ⊎ IsDecided s' k
+        go None e = inl (wanted_on w e)
+        go (Some o) e = inr (λ u. none-some u e)
+    sound_on k (inr d) = inr (decided_on k d)
 
     waits_on : (n m : ℕ) → IsWaiting s es marks n m → outcome_of s' (key_named es m) ≡ None → IsWaiting s' es' marks' n m
     waits_on n m w u =
@@ -190,42 +219,36 @@ module _ (s s' : State) (g : GoesOn s s') where
           leads =
               λ j a.
               let b = subst (λ x. IsAmong j (leads_to s' x)) own a in
-              marked_on j (w.leads j (leads_back (key_named es n) j (key_named es m) (plan s.recorded (key_named es n)) (plan s'.recorded (key_named es n)) (plans_grown (key_named es n)) w.stage_is b))
-              (lead_undecided (key_named es n) j b);
+              marked_on j (w.leads j (leads_back (key_named es n) j (key_named es m) (plan s.recorded (key_named es n)) (plan s'.recorded (key_named es n)) (plans_grown (key_named es n)) w.stage_is b));
         }
-      where
-        lead_undecided : (k j : Key) → IsAmong j (leads_to s' k) → outcome_of s' j ≡ None
-        lead_undecided k j a = go (plan s'.recorded k) a
-          where
-            go : (p : Plan) → IsAmong j (leads_by the-ask' k p) → the-ask' j ≡ None
-            go (Unknown p) b = absurd b
-            go (Now i) b = absurd b
-            go (Walks e allow) b = (among_undecided the-ask' j (course (Some k) the-ask' e).asked b).1
-            go (Asks i) b = by (the-ask' i) refl b
-              where
-                by : (o : Option Outcome) → the-ask' i ≡ o → IsAmong j (if is_none o then i ∷ [] else []) → the-ask' j ≡ None
-                by None e (inl p) = subst (λ x. the-ask' x ≡ None) p e
-                by None e (inr c) = absurd c
-                by (Some o) e c = absurd c
 
-    pub known_on : AreKnown s es marks waiting blocking → AreKnown s' es' marks' waiting' blocking'
+    pub known_on : AreKnown s es hole marks places → AreKnown s' es' hole marks' places'
     known_on e = record {
       by_root =
           λ k m.
           let b = subst (λ x. IsAmong k (wants None the-ask' x)) g.root_is m in
-          marked_on k (e.by_root k (wants_back None s.root k b)) (among_undecided the-ask' k (course None the-ask' s.root).asked b).1;
+          marked_on k (e.by_root k (wants_back None s.root k b));
       sound =
           λ n h.
-          let f = fewer n h in
-          let a = e.sound n f.0 in
+          let a = e.sound n (sym (marks_are n) ∙ h) in
           let more = longer in
-          (let l = a.0 in omega arith, subst (Wanted s') (sym (names n a.0)) (wanted_on a.1 (f.1 a.0 a.1)));
-      waits =
-          λ n h.
-          let f = still n h in
-          let w = e.waits n f.0 in
-          subst (λ m. IsWaiting s' es' marks' n m) (sym (blocked n)) (waits_on n (number_at blocking n) w (f.1 w));
+          (let l = a.0 in omega arith, subst (λ x. Wanted s' x ⊎ IsDecided s' x) (sym (names n a.0)) (sound_on (key_named es n) a.1));
+      there = λ n h z. e.there n (sym (marks_are n) ∙ h) (off n z);
+      back = λ n z. marks_are n ∙ e.back n (λ h. z (on n h));
+      taken =
+          λ n z.
+          let p = took n z in
+          let l = (e.sound n (e.back n (λ h. zero-one (sym h ∙ p)))).0 in
+          either (e.taken n p) (λ d. subst (IsDecided s') (sym (names n l)) (decided_on (key_named es n) d));
+      waits = λ n m z. let f = still n m z in let w = e.waits n m f.0 in waits_on n m w (f.1 w);
     }
+      where
+        zero-one : ◌≡◌ {A = ℕ} 0 1 → ⊥
+        zero-one h = omega arith
+
+        either : {A B C : Type 0} → A ⊎ B → (B → C) → A ⊎ C
+        either (inl a) f = inl a
+        either (inr b) f = inr (f b)
 
 -- ---- a step that decides no key
 
@@ -241,19 +264,20 @@ module _ (s s' : State) (grows : Grows s s') (root_is : s'.root ≡ s.root) (ask
   waited : (k y : Key) → stage_of s k ≡ Waits y → outcome_of s' y ≡ None
   waited k y e = ap (λ (f : Ask). f y) asks_are ∙ subst (λ x. StageTold s.recorded (outcome_of s) k x) e (stage-told s.recorded (outcome_of s) k)
 
-  pub known_quiet : (es es' : List Entrant) (marks marks' waiting waiting' : List Bool) (blocking blocking' : List ℕ)
+  pub known_quiet : (es es' : List Entrant) (hole : ℕ → Type 0) (marks marks' : List Bool) (places places' : List ℕ)
       → ((k : Key) (n : ℕ) → number_of (rows_of es) k ≡ Some n → number_of (rows_of es') k ≡ Some n) → length es ≤ length es' → ((n : ℕ) → n < length es → key_named es' n ≡ key_named es n)
-      → ((n : ℕ) → is_set marks' n ≡ is_set marks n) → ((n : ℕ) → is_set waiting' n ≡ is_set waiting n) → ((n : ℕ) → number_at blocking' n ≡ number_at blocking n)
-      → AreKnown s es marks waiting blocking → AreKnown s' es' marks' waiting' blocking'
-  known_quiet es es' marks marks' waiting waiting' blocking blocking' numbers longer names marks_are waiting_are blocking_are e =
-      known_on s s' quiet_step es es' marks marks' waiting waiting' blocking blocking' numbers longer names
-      (λ n h. (sym (marks_are n) ∙ h, λ l w. ap (λ (f : Ask). f (key_named es n)) asks_are ∙ wanted-undecided w))
-      (λ n h l u. marks_are n ∙ h)
-      (λ n h. (sym (waiting_are n) ∙ h, λ w. waited (key_named es n) (key_named es (number_at blocking n)) w.stage_is))
-      blocking_are e
+      → ((n : ℕ) → is_set marks' n ≡ is_set marks n) → ((n : ℕ) → number_at places' n ≡ number_at places n)
+      → AreKnown s es hole marks places → AreKnown s' es' hole marks' places'
+  known_quiet es es' hole marks marks' places places' numbers longer names marks_are places_are e =
+      known_on s s' quiet_step es es' hole marks marks' places places' numbers longer names marks_are
+      (λ n z. sym (places_are n) ∙ z)
+      (λ n z. places_are n ∙ z)
+      (λ n z. sym (places_are n) ∙ z)
+      (λ n m z. (sym (places_are n) ∙ z, λ w. waited (key_named es n) (key_named es m) w.stage_is))
+      e
 
-  pub known_still : (es : List Entrant) (marks waiting : List Bool) (blocking : List ℕ) → AreKnown s es marks waiting blocking → AreKnown s' es marks waiting blocking
-  known_still es marks waiting blocking e = known_quiet es es marks marks waiting waiting blocking blocking (λ k n h. h) (omega arith) (λ n l. refl) (λ n. refl) (λ n. refl) (λ n. refl) e
+  pub known_still : (es : List Entrant) (hole : ℕ → Type 0) (marks : List Bool) (places : List ℕ) → AreKnown s es hole marks places → AreKnown s' es hole marks places
+  known_still es hole marks places e = known_quiet es es hole marks marks places places (λ k n h. h) (omega arith) (λ n l. refl) (λ n. refl) (λ n. refl) e
 
 -- a step of a history
 pub step_grows : (root : Term) (drawn : List Task) (news : List machine.News) (history : List Step) (s t : State) (e : Event) → Replays root drawn news history s → May e s → t ≡ effect e s → Grows s t
@@ -264,98 +288,16 @@ step_grows root drawn news history s t e r may p =
 -- ---- a step that changes no more than what is in flight
 
 module _ (s s' : State) (root_is : s'.root ≡ s.root) (recorded_is : s'.recorded ≡ s.recorded) (outcomes_are : s'.outcomes ≡ s.outcomes) where
-  pub known_flights : (es : List Entrant) (marks waiting : List Bool) (blocking : List ℕ) → AreKnown s es marks waiting blocking → AreKnown s' es marks waiting blocking
-  known_flights es marks waiting blocking e =
+  pub known_flights : (es : List Entrant) (hole : ℕ → Type 0) (marks : List Bool) (places : List ℕ) → AreKnown s es hole marks places → AreKnown s' es hole marks places
+  known_flights es hole marks places e =
       known_still s s' (record { longer = subst (λ r. Longer' s.recorded r) (sym recorded_is) (longer-itself s.recorded); knows = λ k o h. ap (λ os. lookup key_eq os k) outcomes_are ∙ h }) root_is
-      (λ i k. lookup key_eq (outcomes_are i) k) es marks waiting blocking e
+      (λ i k. lookup key_eq (outcomes_are i) k) es hole marks places e
 
--- ---- a search
+-- ---- what waits is seen to wait for the key of a number
 
-pub known_explored : (s : State) (keys : List Entrant) (flights : List Flight) (marks waiting seen : List Bool) (blocking : List ℕ) → AreKnown s keys marks waiting blocking
-    → ((n : ℕ) → is_set seen n ≡ true → is_set waiting n ≡ true) → IsExplored s keys flights marks seen
-known_explored s keys flights marks waiting seen blocking e only = record {
-  by_root = e.by_root;
-  sound = e.sound;
-  closed = λ n h. let w = e.waits n (only n h) in record { leads = w.leads; tasks = λ t d. absurd (subst (λ x. IsTaskAt (key_named keys n) x t) w.stage_is d) };
-}
-
--- of a beginning
-pub explored_known : (s : State) (keys : List Entrant) (flights : List Flight) (marks seen waiting : List Bool) (blocking : List ℕ) → IsExplored s keys flights marks seen
-    → ((n : ℕ) → is_set waiting n ≡ true → ⊥) → AreKnown s keys marks waiting blocking
-explored_known s keys flights marks seen waiting blocking e none = record { by_root = e.by_root; sound = e.sound; waits = λ n h. absurd (none n h) }
-
--- ---- a key that is seen
-
-module _ (s : State) (keys : List Entrant) (n : ℕ) (marks marks' : List Bool) (set : is_set marks n ≡ true) (fit : length keys ≤ length marks)
-    (marked : AreMarked (rows_of keys) (leads_to s (key_named keys n)) marks marks') (numbered : (j : Key) → IsAmong j (leads_to s (key_named keys n)) → IsNumbered (rows_of keys) j) where
-  pub lead_marked : (j : Key) → IsAmong j (leads_to s (key_named keys n)) → IsMarked keys marks' j
-  lead_marked j m =
-      let x = numbered j m in
-      let inside = number_names keys j x.0 x.1 in
-      let l : x.0 < length marks = let a = inside.0 in omega arith in
-      record { number = x.0; number_is = x.1; set = marked.set x.0 l (j, m, x.1) }
-
-  kept_mark : (j : Key) → IsMarked keys marks j → IsMarked keys marks' j
-  kept_mark j m = marked_kept keys marks marks' marked.kept j m
-
-  pub see_known : (waiting : List Bool) (blocking : List ℕ) → AreKnown s keys marks waiting blocking → AreKnown s keys marks' waiting blocking
-  see_known waiting blocking e = record {
-    by_root = λ k m. kept_mark k (e.by_root k m);
-    sound =
-        λ x h.
-        elim (marked.only x h) [
-          | inl old ↦ e.sound x old
-          | inr (j, m, q) ↦ (let inside = number_names keys j x q in (inside.0, subst (Wanted s) (sym inside.1) (by_key (e.sound n set).1 m)))
-        ];
-    waits = λ x h. let w = e.waits x h in record { inside = w.inside; blocker = w.blocker; stage_is = w.stage_is; leads = λ j m. kept_mark j (w.leads j m) };
-  }
-
--- what waits is seen to wait for the key of a number
 pub reach_waits : (es : List Entrant) (k : Key) (x : Stage) (m : ℕ) → IsReach (rows_of es) k x (reaches.Wait m) → (m < length es) × (x ≡ Waits (key_named es m))
 reach_waits es k (Lacks (TextOf l)) m r = absurd r
 reach_waits es k (Lacks (LookOf d)) m r = absurd r
 reach_waits es k (Has i) m r = absurd r
 reach_waits es k (Meets j) m r = absurd r
 reach_waits es k (Waits y) m r = let a = number_names es y m r in (a.0, ap (λ z. Waits z) (sym a.1))
-
-pub one_more_waits : (s : State) (keys : List Entrant) (n m : ℕ) (marks waiting waiting' : List Bool) (blocking blocking' : List ℕ) → n < length blocking
-    → waiting' ≡ slice_set waiting n true → blocking' ≡ slice_set blocking n m → IsWaiting s keys marks n m → AreKnown s keys marks waiting blocking → AreKnown s keys marks waiting' blocking'
-one_more_waits s keys n m marks waiting waiting' blocking blocking' l p q w e = record {
-  by_root = e.by_root;
-  sound = e.sound;
-  waits =
-      λ x h.
-      elim (eqb_tells x n) [
-        | inl y ↦ subst (λ z. IsWaiting s keys marks x z) (sym (ap (λ ns. number_at ns x) q ∙ ap (number_at (slice_set blocking n m)) y.1 ∙ get_or-set_same blocking n m 0 l)) (subst (λ z. IsWaiting s keys marks z m) (sym y.1) w)
-        | inr y ↦
-            subst (λ z. IsWaiting s keys marks x z) (sym (ap (λ ns. number_at ns x) q ∙ get_or-set_other blocking n x m 0 y.1))
-            (e.waits x (sym (get_or-set_other waiting n x true false y.1) ∙ ap (λ bs. is_set bs x) (sym p) ∙ h))
-      ];
-}
-
--- a key of a table that is seen
-module _ (keys : List Entrant) (texts : List Text) (looks : List Look) (flights : List Flight) (s : State) (p : Stands keys texts looks flights s) (n : ℕ) (inside : n < length keys)
-    (marks marks' : List Bool) (set : is_set marks n ≡ true) (fit : length keys ≤ length marks)
-    (marked : AreMarked (rows_of keys) (leads_by (ask_of (rows_of keys)) (key_named keys n) (plan (record_by texts looks) (key_named keys n))) marks marks')
-    (numbered : (j : Key) → IsAmong j (leads_by (ask_of (rows_of keys)) (key_named keys n) (plan (record_by texts looks) (key_named keys n))) → IsNumbered (rows_of keys) j) where
-  its-leads : leads_to s (key_named keys n) ≡ leads_by (ask_of (rows_of keys)) (key_named keys n) (plan (record_by texts looks) (key_named keys n))
-  its-leads = leads_stand keys texts looks flights s p (key_named keys n)
-
-  marked_so : AreMarked (rows_of keys) (leads_to s (key_named keys n)) marks marks'
-  marked_so = subst (λ ks. AreMarked (rows_of keys) ks marks marks') (sym its-leads) marked
-
-  numbered_so : (j : Key) → IsAmong j (leads_to s (key_named keys n)) → IsNumbered (rows_of keys) j
-  numbered_so j m = numbered j (subst (IsAmong j) its-leads m)
-
-  pub key_known : (waiting : List Bool) (blocking : List ℕ) → AreKnown s keys marks waiting blocking → AreKnown s keys marks' waiting blocking
-  key_known waiting blocking e = see_known s keys n marks marks' set fit marked_so numbered_so waiting blocking e
-
-  pub key_waits : (m : ℕ) → IsReach (rows_of keys) (key_named keys n) (stage (record_by texts looks) (ask_of (rows_of keys)) (key_named keys n)) (reaches.Wait m) → IsWaiting s keys marks' n m
-  key_waits m r =
-      let w = reach_waits keys (key_named keys n) (stage (record_by texts looks) (ask_of (rows_of keys)) (key_named keys n)) m r in
-      record {
-        inside = inside;
-        blocker = w.0;
-        stage_is = stage_stands keys texts looks flights s p (key_named keys n) ∙ w.1;
-        leads = lead_marked s keys n marks marks' set fit marked_so numbered_so;
-      }

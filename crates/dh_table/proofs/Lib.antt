@@ -13,6 +13,8 @@ pub mod RootEnds
 pub mod Looping
 pub mod Seeing
 pub mod Tasks
+pub mod Piled
+pub mod Searched
 pub mod Telling
 pub mod Owning
 pub mod Reaching

@@ -1,5 +1,5 @@
 -- What found bytes spell is the expression that a table keeps of them.
-use Rattle.std.specs.Prelude.{◌≡◌, ℕ, List, Option, Some, Result, Ok, Err, IfOk, refl}
+use Rattle.std.specs.Prelude.{◌≡◌, ℕ, List, Option, Some, Result, Ok, Err, IfOk}
 use Rattle.dh_syntax.specs.Expressions.Tree.{Term}
 use Rattle.dh_syntax.specs.Imports.Records.{Found}
 use Rattle.dh_ports.specs.declared.worlds.Got.TheVariants as gots

@@ -86,7 +86,7 @@ plan_limits r k = digest-limits r k k.digest
 
 -- ---- the wants of a text have numbers
 
-among-filter : {A : Type 0} (test : A → Bool) (a : A) (xs : List A) → IsAmong a (filter test xs) → IsAmong a xs
+pub among-filter : {A : Type 0} (test : A → Bool) (a : A) (xs : List A) → IsAmong a (filter test xs) → IsAmong a xs
 among-filter test a [] m = m
 among-filter test a (x ∷ xs) m = go (test x) m (λ q. among-filter test a xs q)
   where

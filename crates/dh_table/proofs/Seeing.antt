@@ -27,7 +27,7 @@ use Rattle.dh_table.specs.declared.texts.Look.{Look}
 use Rattle.dh_table.specs.declared.texts.Text.{Text}
 use Rattle.dh_table.specs.declared.visits.Reach.TheVariants as reaches
 use Rattle.dh_table.specs.Inside.Reading.{record_by, IsReach, IsNumbered}
-use Rattle.dh_table.specs.Inside.Searching.{Stands, Flies, IsTaskAt, is_set, IsMarked, IsSeen, IsExplored, IsStill, IsJob, one_unless, unseen}
+use Rattle.dh_table.specs.Inside.Searching.{Stands, Flies, IsTaskAt, is_set, IsMarked, IsJob, one_unless, unseen}
 use Rattle.dh_table.specs.States.{rows_of, key_named, digest_or_none, task_by}
 use Rattle.dh_table.proofs.Reading.{number_names, plan_limits, wants_numbered}
 
@@ -164,47 +164,7 @@ module _ (keys : List Entrant) (marks marks' : List Bool) (rows-new : (n : ℕ) 
   pub marked_kept : (j : Key) → IsMarked keys marks j → IsMarked keys marks' j
   marked_kept j m = record { number = m.number; number_is = m.number_is; set = rows-new m.number m.set }
 
--- ---- a key that is seen
-
-pub record See (s : State) (keys : List Entrant) (flights : List Flight) (n : ℕ) (marks marks' seen seen' : List Bool) : Type 0 where
-  pub inside : n < length keys
-  pub set : is_set marks n ≡ true
-  pub marks_fit : length keys ≤ length marks
-  pub marked : AreMarked (rows_of keys) (leads_to s (key_named keys n)) marks marks'
-  pub numbered : (j : Key) → IsAmong j (leads_to s (key_named keys n)) → IsNumbered (rows_of keys) j
-  pub seen_is : seen' ≡ slice_set seen n true
-  pub tasks : (t : Task) → IsTaskAt (key_named keys n) (stage_of s (key_named keys n)) t → Flies keys flights t
-
-module _ (s : State) (keys : List Entrant) (flights : List Flight) (n : ℕ) (marks marks' seen seen' : List Bool) (c : See s keys flights n marks marks' seen seen') (e : IsExplored s keys flights marks seen) where
-  see_leads : (j : Key) → IsAmong j (leads_to s (key_named keys n)) → IsMarked keys marks' j
-  see_leads j m =
-      let x = c.numbered j m in
-      let inside = number_names keys j x.0 x.1 in
-      let fit = c.marks_fit in
-      let l : x.0 < length marks = let a = inside.0 in omega arith in
-      record { number = x.0; number_is = x.1; set = c.marked.set x.0 l (j, m, x.1) }
-
-  see_sound : (x : ℕ) → is_set marks' x ≡ true → (x < length keys) × Wanted s (key_named keys x)
-  see_sound x h =
-      elim (c.marked.only x h) [
-        | inl old ↦ e.sound x old
-        | inr (j, m, q) ↦
-            let inside = number_names keys j x q in
-            (inside.0, subst (Wanted s) (sym inside.1) (by_key (e.sound n c.set).1 m))
-      ]
-
-  see_kept : (k : Key) → IsSeen s keys flights marks k → IsSeen s keys flights marks' k
-  see_kept k i = record { leads = λ j m. marked_kept keys marks marks' c.marked.kept j (i.leads j m); tasks = i.tasks }
-
-  see_closed : (x : ℕ) → is_set seen' x ≡ true → IsSeen s keys flights marks' (key_named keys x)
-  see_closed x h =
-      elim (set_cases seen n x (subst (λ bs. is_set bs x ≡ true) c.seen_is h)) [
-        | inl p ↦ subst (λ y. IsSeen s keys flights marks' (key_named keys y)) (sym p) (record { leads = see_leads; tasks = c.tasks })
-        | inr old ↦ see_kept (key_named keys x) (e.closed x old)
-      ]
-
-  pub see_explored : IsExplored s keys flights marks' seen'
-  see_explored = record { by_root = λ k m. marked_kept keys marks marks' c.marked.kept k (e.by_root k m); sound = see_sound; closed = see_closed }
+-- ---- the task of a key that is seen
 
 module _ (keys : List Entrant) (texts : List Text) (looks' : List Look) (flights : List Flight) (s : State) (p : Stands keys texts looks' flights s) (n : ℕ) (inside : n < length keys) where
   abbrev the_stage : Stage
@@ -233,59 +193,8 @@ module _ (keys : List Entrant) (texts : List Text) (looks' : List Look) (flights
     frozen = frozen_reach (rows_of keys) (key_named keys n) the_stage kind r;
   }
 
-  pub see_by : (marks marks' seen seen' : List Bool) → is_set marks n ≡ true → length keys ≤ length marks
-      → AreMarked (rows_of keys) (leads_by (ask_of (rows_of keys)) (key_named keys n) (plan (record_by texts looks') (key_named keys n))) marks marks'
-      → ((j : Key) → IsAmong j (leads_by (ask_of (rows_of keys)) (key_named keys n) (plan (record_by texts looks') (key_named keys n))) → IsNumbered (rows_of keys) j)
-      → seen' ≡ slice_set seen n true
-      → ((t : Task) → IsTaskAt (key_named keys n) (stage_of s (key_named keys n)) t → Flies keys flights t)
-      → See s keys flights n marks marks' seen seen'
-  see_by marks marks' seen seen' set fit marked numbered seen_is tasks =
-      let e = leads_stand keys texts looks' flights s p (key_named keys n) in
-      record {
-        inside = inside;
-        set = set;
-        marks_fit = fit;
-        marked = subst (λ ks. AreMarked (rows_of keys) ks marks marks') (sym e) marked;
-        numbered = λ j m. numbered j (subst (IsAmong j) e m);
-        seen_is = seen_is;
-        tasks = tasks;
-      }
+-- ---- the wants of the root
 
--- ---- the first keys, and the last
-
-module _ (keys : List Entrant) (texts : List Text) (looks' : List Look) (flights : List Flight) (s : State) (p : Stands keys texts looks' flights s) (root : Term) (edges : List Edge) (root_is : s.root ≡ root) (fits : Fits None (rows_of keys) root edges) where
-  root_wants : wants None (outcome_of s) s.root ≡ wants None (ask_of (rows_of keys)) root
+module _ (keys : List Entrant) (texts : List Text) (looks' : List Look) (flights : List Flight) (s : State) (p : Stands keys texts looks' flights s) (root : Term) (root_is : s.root ≡ root) where
+  pub root_wants : wants None (outcome_of s) s.root ≡ wants None (ask_of (rows_of keys)) root
   root_wants = λ i. wants None (p.asks i) (root_is i)
-
-  pub first_explored : (size others : ℕ) (old marks seen : List Bool) → length keys ≤ size → old ≡ replicate size false → AreMarked (rows_of keys) (wants None (ask_of (rows_of keys)) root) old marks → seen ≡ replicate others false
-      → IsExplored s keys flights marks seen
-  first_explored size others old marks seen fit old_is m seen_is = record {
-    by_root =
-        λ k q.
-        let w = subst (IsAmong k) root_wants q in
-        let x = wants_numbered None (rows_of keys) (ask_of (rows_of keys)) root edges k fits w in
-        let inside = number_names keys k x.0 x.1 in
-        let l : x.0 < length old = let a = inside.0 in let b = ap length old_is ∙ length-replicate size false in omega arith in
-        record { number = x.0; number_is = x.1; set = m.set x.0 l (k, w, x.1) };
-    sound =
-        λ n h.
-        elim (m.only n h) [
-          | inl o ↦ absurd (nothing_set size n (subst (λ bs. is_set bs n ≡ true) old_is o))
-          | inr (j, w, q) ↦ (let inside = number_names keys j n q in (inside.0, subst (Wanted s) (sym inside.1) (by_root (subst (IsAmong j) (sym root_wants) w))))
-        ];
-    closed = λ n h. absurd (nothing_set others n (subst (λ bs. is_set bs n ≡ true) seen_is h));
-  }
-
-module _ (keys : List Entrant) (texts : List Text) (looks' : List Look) (flights : List Flight) (s : State) (p : Stands keys texts looks' flights s) (marks seen : List Bool) (e : IsExplored s keys flights marks seen) (still : IsStill marks seen) where
-  seen_key : (k : Key) → IsMarked keys marks k → IsSeen s keys flights marks k
-  seen_key k m = subst (IsSeen s keys flights marks) (number_names keys k m.number m.number_is).1 (e.closed m.number (still m.number m.set))
-
-  wanted_marked : {k : Key} → Wanted s k → IsMarked keys marks k
-  wanted_marked {k} (by_root m) = e.by_root k m
-  wanted_marked {k} (by_key {j = j} w m) = (seen_key j (wanted_marked w)).leads k m
-
-  pub none_open : (t : Task) → ¬ IsOpen s t
-  none_open t o =
-      let a = task_at s t o.due in
-      let f = flies_stands keys texts looks' flights s p t ((seen_key a.key (wanted_marked a.wanted)).tasks t a.due) in
-      o.free f.0 f.1

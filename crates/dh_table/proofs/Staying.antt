@@ -1,9 +1,9 @@
 -- What is known from earlier searches stays true where a text is recorded, and where a key gets a value that each text may read.
-use Rattle.std.specs.Prelude.{◌≡◌, ◌⊎◌, ◌<◌, ◌≤◌, ℕ, zero, suc, Bool, true, false, if◌then◌else◌, List, [], ◌∷◌, length, slice_set, Option, Some, None, is_none, refl}
+use Rattle.std.specs.Prelude.{◌≡◌, ◌⊎◌, ◌<◌, ◌+◌, ℕ, zero, suc, Bool, true, false, if◌then◌else◌, List, [], ◌∷◌, length, slice_set, Option, Some, None, is_none, refl}
 use Rattle.std.proofs.Common.{ap, sym, ◌∙◌, subst, arith, inl, inr}
 use Rattle.std.proofs.lemmas.Bool.{false≢true}
 use Rattle.std.proofs.lemmas.Bool.Decides.{eqb_tells}
-use Rattle.std.proofs.lemmas.List.{get_or-set_other, length-set}
+use Rattle.std.proofs.lemmas.List.{get_or-set_other}
 use Rattle.dh_syntax.specs.declared.locations.Key.{Key}
 use Rattle.dh_syntax.specs.declared.locations.Loc.{Loc}
 use Rattle.dh_syntax.specs.declared.outcomes.Origin.{Origin}
@@ -30,29 +30,31 @@ use Rattle.dh_demand.specs.Results.{number_of}
 use Rattle.dh_table.specs.declared.explored.Explored.{Explored}
 use Rattle.dh_table.specs.declared.texts.Entrant.{Entrant}
 use Rattle.dh_table.specs.Inside.Entering.{AreDistinct, AreMore, decided_at, keys_in}
-use Rattle.dh_table.specs.Inside.Searching.{IsExploredBy, IsSameKnown, IsUnblocked, Knows, is_open_origin, is_open_value, is_set, number_at}
+use Rattle.dh_table.specs.Inside.Piling.{number_at}
+use Rattle.dh_table.specs.Inside.Searching.{IsExploredBy, IsSameKnown, IsUnblocked, IsWaiting, Knows, is_open_origin, is_open_value, is_set, no_hole}
 use Rattle.dh_table.specs.States.{rows_of, key_named}
 use Rattle.dh_table.proofs.Deciding.{decided_length, names, number_itself, numbers}
 use Rattle.dh_table.proofs.Known.{GoesOn, known_on, known_quiet, step_grows}
 use Rattle.dh_table.proofs.NewKeys.{entrant_grown}
+use Rattle.dh_table.proofs.Searched.{place_poured}
 use Rattle.dh_table.proofs.TextLanding.{as_many_more, name_grown}
 
 -- ---- more room
 
 pub known_alike : (s : State) (es : List Entrant) (old new : Explored) → IsSameKnown old new → Knows s es old → Knows s es new
 known_alike s es old new same k h =
-    known_quiet s s (record { longer = longer-itself s.recorded; knows = λ x o q. q }) refl refl es es old.marks new.marks old.waiting new.waiting old.blocking.items new.blocking.items (λ x n q. q) (omega arith) (λ n l. refl)
-    same.marks_are same.waiting_are same.blocking_are (k (sym same.known_is ∙ h))
+    known_quiet s s (record { longer = longer-itself s.recorded; knows = λ x o q. q }) refl refl es es no_hole old.marks new.marks old.piles new.piles (λ x n q. q) (omega arith) (λ n l. refl)
+    same.marks_are same.piles_are (k (sym same.known_is ∙ h))
 
 -- ---- more keys
 
 pub known_more : (es es' : List Entrant) (ks : List Key) → AreMore es ks es' → (s s' : State) → Grows s s' → s'.root ≡ s.root → outcome_of s' ≡ outcome_of s → (old new : Explored) → IsSameKnown old new → Knows s es old → Knows s' es' new
 known_more es es' ks m s s' grows root_is asks_are old new same k h =
-    known_quiet s s' grows root_is asks_are es es' old.marks new.marks old.waiting new.waiting old.blocking.items new.blocking.items
+    known_quiet s s' grows root_is asks_are es es' no_hole old.marks new.marks old.piles new.piles
     (λ x n q. subst (λ (fs : List Entrant). number_of (rows_of fs) x ≡ Some n) (sym m.new_is) (entrant_grown es m.more x n q))
     (as_many_more es es' ks m)
     (λ n l. ap (λ (fs : List Entrant). key_named fs n) m.new_is ∙ name_grown es m.more n l)
-    same.marks_are same.waiting_are same.blocking_are (k (sym same.known_is ∙ h))
+    same.marks_are same.piles_are (k (sym same.known_is ∙ h))
 
 -- ---- a value that each text may read
 
@@ -128,39 +130,41 @@ module _ (root : Term) (drawn : List Task) (news : List machine.News) (history :
   still_none : (m : ℕ) → m < length es → (m ≡ n → ⊥) → outcome_of s (key_named es m) ≡ None → outcome_of s' (key_named es m) ≡ None
   still_none m h p u = elsewhere (key_named es m) (λ q. p (own_number m h q)) ∙ u
 
-  module _ (old new : Explored) (u : IsUnblocked (length es) n old new) where
-    mark_left : (m : ℕ) → is_set new.marks m ≡ true → (m ≡ n → ⊥) × (is_set old.marks m ≡ true)
-    mark_left m h =
-        let a : is_set (slice_set old.marks n false) m ≡ true = subst (λ bs. is_set bs m ≡ true) u.marks_are h in
-        elim (eqb_tells m n) [
-          | inl p ↦ absurd (false≢true (sym (unset old.marks m n p.1) ∙ a))
-          | inr p ↦ (p.1, sym (get_or-set_other old.marks n m false false p.1) ∙ a)
-        ]
-      where
-        unset : (bs : List Bool) (x y : ℕ) → x ≡ y → is_set (slice_set bs y false) x ≡ false
-        unset bs x y p = subst (λ z. is_set (slice_set bs y false) z ≡ false) (sym p) (cleared bs y)
-          where
-            cleared : (bs : List Bool) (y : ℕ) → is_set (slice_set bs y false) y ≡ false
-            cleared [] y = refl
-            cleared (b ∷ bs) zero = refl
-            cleared (b ∷ bs) (suc y) = cleared bs y
-
+  module _ (old new : Explored) (u : IsUnblocked n old new) where
     waited : (k y : Key) → stage_of s k ≡ Waits y → outcome_of s y ≡ None
     waited k y e = subst (λ x. StageTold s.recorded (outcome_of s) k x) e (stage-told s.recorded (outcome_of s) k)
 
+    moved : (m : ℕ) → (number_at new.piles m ≡ number_at old.piles m × ¬ (number_at old.piles m ≡ n + 4)) ⊎ ((number_at old.piles m ≡ n + 4) × (number_at new.piles m ≡ 2))
+    moved m = place_poured (n + 4) 2 old.piles new.piles u.poured m
+
+    still : (m j : ℕ) → number_at new.piles m ≡ j + 4 → (number_at old.piles m ≡ j + 4) × (IsWaiting s es old.marks m j → outcome_of s' (key_named es j) ≡ None)
+    still m j z =
+        elim (moved m) [
+          | inr q ↦ (let a = q.1 in let b : ⊥ = omega arith in absurd b)
+          | inl q ↦ (sym q.0 ∙ z, λ w. still_none j w.blocker (λ y. q.1 (sym q.0 ∙ z ∙ ap (λ i. i + 4) y)) (waited (key_named es m) (key_named es j) w.stage_is))
+        ]
+
     pub known_decided : IsExploredBy s es old → IsExploredBy s' (decided_at es n o) new
     known_decided e =
-        known_on s s' goes_on es (decided_at es n o) old.marks new.marks old.waiting new.waiting old.blocking.items new.blocking.items
+        known_on s s' goes_on es (decided_at es n o) no_hole old.marks new.marks old.piles new.piles
         (λ k m q. numbers es n o l d k ∙ q)
         (let a = decided_length es n o (decided_at es n o) refl in omega arith)
         (λ m h. ap (λ (f : ℕ → Key). f m) (names es n o l d))
-        (λ m h. let a = mark_left m h in (a.1, λ inside w. still_none m inside a.0 (wanted-undecided w)))
-        (λ m h inside none.
-        ap (λ bs. is_set bs m) u.marks_are
-        ∙ get_or-set_other old.marks n m false false (λ p. none-some none (ap (λ x. outcome_of s' (key_named es x)) p ∙ here)) ∙ h)
-        (λ m h. (
-          u.waiting m h,
-          λ w. still_none (number_at old.blocking.items m) w.blocker (u.unblocked m w.inside h) (waited (key_named es m) (key_named es (number_at old.blocking.items m)) w.stage_is),
-        ))
-        (λ m. ap (λ ns. number_at ns m) u.blocking_is)
+        (λ m. ap (λ bs. is_set bs m) u.marks_are)
+        (λ m z.
+        elim (moved m) [
+          | inl q ↦ sym q.0 ∙ z
+          | inr q ↦ (let a = q.1 in let b : ⊥ = omega arith in absurd b)
+        ])
+        (λ m z.
+        elim (moved m) [
+          | inl q ↦ q.0 ∙ z
+          | inr q ↦ (let a = q.0 in let b : ⊥ = omega arith in absurd b)
+        ])
+        (λ m z.
+        elim (moved m) [
+          | inl q ↦ sym q.0 ∙ z
+          | inr q ↦ (let a = q.1 in let b : ⊥ = omega arith in absurd b)
+        ])
+        still
         e

@@ -3,7 +3,9 @@ pub mod Due
 pub mod Entering
 pub mod Equal
 pub mod Keeping
+pub mod Knowing
 pub mod Reading
 pub mod Recording
 pub mod Searching
 pub mod Sorting
+pub mod Piling

@@ -65,7 +65,6 @@ impl<W: World> Table<W> {
             &Looks::of(looks.as_slice(), look_order),
             flights.as_slice(),
             &mut scratch.explored,
-            &mut scratch.seen,
         )
     }
 

@@ -1,20 +1,34 @@
 //! What searches have found so far, so that the next one looks only at what has changed.
 
-ghost use Rattle.std.specs.Prelude.{◌≡◌, ◌<◌, ◌≤◌, ◌^◌, ℕ, true, false, length, max, replicate, slice_set, vec_len, IfOk, OnOk};
-ghost use Rattle.dh_table.specs.Inside.Searching.{is_set, number_at, HasRoom, IsSameKnown, IsUnblocked};
+ghost use Rattle.std.specs.Prelude.{◌≡◌, ◌<◌, ◌≤◌, ◌+◌, ℕ, true, false, length, max, replicate, IfOk, OnOk};
+ghost use Rattle.dh_table.specs.Inside.Piling.{number_at};
+ghost use Rattle.dh_table.specs.Inside.Searching.{is_set, HasRoom, IsSameKnown, IsUnblocked};
 
+use crate::piles::{Piles, pour};
 use dh_demand::Marks;
 use std::alloc::{AllocError, Global};
 
-/// The keys that were found to be wanted, and those of them that wait for others.
+/// The pile of the keys to look at next.
+pub(crate) const READY: usize = 2;
+
+/// The pile of the keys whose task was seen in flight.
+pub(crate) const HELD: usize = 3;
+
+/// The pile of the keys that wait for one.
+pub(crate) fn waiters(n: u32) -> usize
+    ensures { result ≡ n + 4 }
+{
+    n as usize + 4
+}
+
+/// The keys that were found to be wanted, each on a pile: of those to look at, of those in flight, or of those that wait for
+/// one key.
 #[derive(Debug, Drop)]
 pub(crate) struct Explored {
     /// Whether the rest is true of the table as it stands.
     pub known: bool,
     pub marks: Marks,
-    pub waiting: Marks,
-    /// For each key that waits the number of the key for which it waits.
-    pub blocking: Vec<u32>,
+    pub piles: Piles,
 }
 
 impl Explored {
@@ -24,13 +38,12 @@ impl Explored {
         ensures room { IfOk result (λ e. HasRoom keys e) }
     {
         let marks = Marks::of(vec![in alloc; false; keys]?);
-        let waiting = Marks::of(vec![in alloc; false; keys]?);
-        let blocking = vec![in alloc; 0; keys]?;
+        let mut piles = Piles::new(alloc)?;
+        pile_all(&mut piles, keys)?;
         Ok(Explored {
             known: false,
             marks,
-            waiting,
-            blocking,
+            piles,
         })
     }
 
@@ -41,66 +54,32 @@ impl Explored {
         ensures kept { (n : ℕ) → HasRoom n self.old → HasRoom n self.new }
     {
         mark_all(&mut self.marks, keys)?;
-        mark_all(&mut self.waiting, keys)?;
-        number_all(&mut self.blocking, keys)?;
+        pile_all(&mut self.piles, keys)?;
         Ok(())
     }
 
-    /// Begins anew: no key has a mark.
+    /// Begins anew: no key has a mark, and none is on a pile.
     pub fn clear(&mut self)
         ensures known { self.new.known ≡ true }
         ensures marks { self.new.marks ≡ replicate (length self.old.marks) false }
-        ensures waiting { self.new.waiting ≡ replicate (length self.old.waiting) false }
-        ensures blocking { self.new.blocking ≡ self.old.blocking }
+        ensures piles { self.new.piles ≡ replicate (length self.old.piles) 0 }
     {
         self.marks.clear();
-        self.waiting.clear();
+        self.piles.clear();
         self.known = true;
     }
 
-    /// A key waits for another.
-    pub fn block(&mut self, n: u32, by: u32)
-        requires waiting { n < length self.old.waiting }
-        requires blocking { n < vec_len self.old.blocking }
-        ensures known { self.new.known ≡ self.old.known }
-        ensures marks { self.new.marks ≡ self.old.marks }
-        ensures waiting { self.new.waiting ≡ slice_set self.old.waiting n true }
-        ensures blocking { self.new.blocking.items ≡ slice_set self.old.blocking.items n by }
-        ensures len { vec_len self.new.blocking ≡ vec_len self.old.blocking }
-    {
-        self.waiting.set(n, true);
-        self.blocking[n as usize] = by;
-    }
-
-    /// The key of this number is decided; where not every text may read its value, nothing is known from then on.
-    pub fn free(&mut self, n: u32, passes: bool, keys: usize)
-        requires inside { n < keys }
-        requires few { keys ≤ 2 ^ 32 }
-        requires room { HasRoom keys self.old }
+    /// The key of this number is decided: those that wait for it are to be looked at. Where not every text may read its value,
+    /// nothing is known from then on.
+    pub fn free(&mut self, n: u32, passes: bool)
+        requires { n < length self.old.piles }
         ensures known { self.new.known ≡ true → self.old.known ≡ true }
         ensures passes { self.new.known ≡ true → passes ≡ true }
-        ensures unblocked { IsUnblocked keys n self.old self.new }
-        ensures room { HasRoom keys self.new }
+        ensures unblocked { IsUnblocked n self.old self.new }
+        ensures room { (keys : ℕ) → HasRoom keys self.old → HasRoom keys self.new }
     {
         self.known = self.known && passes;
-        self.marks.set(n, false);
-        unblock(&mut self.waiting, self.blocking.as_slice(), n, keys);
-    }
-}
-
-// Nothing is known any more of those of the first keys that wait for this one.
-fn unblock(waiting: &mut Marks, blocking: &[u32], n: u32, keys: usize)
-    requires few { keys ≤ 2 ^ 32 }
-    requires waiting { keys ≤ length waiting.old }
-    requires blocking { keys ≤ length blocking.now }
-    ensures fewer { (i : ℕ) → is_set waiting.new i ≡ true → is_set waiting.old i ≡ true }
-    ensures unblocked { (i : ℕ) → i < keys → is_set waiting.new i ≡ true → ¬ (number_at blocking.now i ≡ n) }
-    ensures len { length waiting.new ≡ length waiting.old }
-{
-    for i in 0..keys {
-        if blocking[i] == n {
-            waiting.set(i as u32, false);
-        }
+        pour(&mut self.piles, waiters(n), READY);
     }
 }
 
@@ -117,14 +96,14 @@ pub(crate) fn mark_all(marks: &mut Marks, len: usize) -> Result<(), AllocError>
     Ok(())
 }
 
-// Adds zeros, so that there are at least so many numbers.
-fn number_all(numbers: &mut Vec<u32>, len: usize) -> Result<(), AllocError>
-    ensures enough { OnOk result (len ≤ vec_len numbers.new) }
-    ensures more { vec_len numbers.old ≤ vec_len numbers.new }
-    ensures same { (n : ℕ) → number_at numbers.new.items n ≡ number_at numbers.old.items n }
+// Adds keys on no pile, so that there are at least so many.
+fn pile_all(piles: &mut Piles, len: usize) -> Result<(), AllocError>
+    ensures enough { OnOk result (len ≤ length piles.new) }
+    ensures more { length piles.old ≤ length piles.new }
+    ensures same { (n : ℕ) → number_at piles.new n ≡ number_at piles.old n }
 {
-    while numbers.len() < len {
-        numbers.push(0)?;
+    while piles.len() < len {
+        piles.add()?;
     }
     Ok(())
 }

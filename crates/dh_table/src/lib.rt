@@ -8,6 +8,7 @@
 mod blames;
 mod claims;
 mod deliveries;
+mod digests;
 mod due_items;
 mod entering;
 mod entrants;
@@ -19,6 +20,7 @@ mod fresh;
 mod items;
 mod keeps;
 mod kept;
+mod leads;
 mod lookups;
 mod loops;
 mod news;
@@ -26,6 +28,7 @@ mod opening;
 mod orders;
 mod own_items;
 mod passing;
+mod piles;
 mod plans;
 mod probes;
 mod queries;
@@ -55,5 +58,7 @@ pub use steps::{Kind, Step};
 pub use tables::{Table, Ticket};
 pub use works::Work;
 
+#[cfg(test)]
+mod run_tests;
 #[cfg(test)]
 mod tests;

@@ -1,20 +1,22 @@
-//! The texts of a table as they were found, for telling where a fault stands in one.
+//! The texts of a table as they were found, for telling where a fault stands in one, and the digests for the root.
 
-ghost use Rattle.std.specs.Prelude.{◌≡◌, List, ℕ, Option, Some, Ok, IfOk};
+ghost use Rattle.std.specs.Prelude.{◌≡◌, List, ℕ, Option, Some, Ok, IfOk, true};
 ghost use Rattle.std.specs.Option.{option_copied};
 ghost use Rattle.dh_syntax.specs.Expressions.Tree.{Term};
+ghost use Rattle.dh_syntax.specs.Imports.Freezing.{digests_behind};
 ghost use Rattle.dh_syntax.specs.Imports.Machine.{outcome_of};
 ghost use Rattle.dh_syntax.specs.Imports.Records.{Found, text_at};
 ghost use Rattle.dh_syntax.specs.Imports.TextPaths.{text_path};
 ghost use Rattle.dh_demand.specs.Scans.{text_key};
 ghost use Rattle.dh_table.specs.States.{record_of, state_of};
 
+use crate::digests::digests_of;
 use crate::lookups::{Texts, text_at};
 use crate::news::Noted;
 use crate::tables::Table;
-use dh_demand::text_path;
+use dh_demand::{keys_behind, text_path};
 use dh_ports::{Got, World};
-use dh_syntax::Loc;
+use dh_syntax::{Digest, Loc};
 use std::alloc::{AllocError, Global};
 
 impl<W: World> Table<W> {
@@ -35,6 +37,14 @@ impl<W: World> Table<W> {
         ensures { IfOk result (λ p. p.items ≡ text_path None (outcome_of (state_of self.now)) (state_of self.now).root path.now) }
     {
         text_path(alloc, &self.root, None, self, path)
+    }
+
+    /// For each import of the root, in the order of the nodes, the digest to write behind it when the root is frozen.
+    pub fn root_digests(&self, alloc: Global) -> Result<Vec<Option<Digest>>, AllocError>
+        ensures { IfOk result (λ ds. ds.items ≡ digests_behind (outcome_of (state_of self.now)) true (state_of self.now).root) }
+    {
+        let keys = keys_behind(alloc, &self.root, self)?;
+        digests_of(alloc, &self.keys, keys.as_slice())
     }
 
     /// The path in the text at a location of the node to which a path leads in the text with its values. It is empty where no text

@@ -104,8 +104,7 @@ impl<W: World> Table<W> {
         done.has_value();
         let limited = done.is_limit();
         let passes = is_open_value(&done.item().key.loc, done.outcome());
-        let count = self.keys.len();
-        self.scratch.explored.free(n, passes, count);
+        self.scratch.explored.free(n, passes);
         self.keys.decide(n, done.into_outcome());
         put(&mut self.decided, n);
         put_if(&mut self.limited, limited, n);

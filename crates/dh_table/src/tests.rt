@@ -1,8 +1,9 @@
 //! Tests: a root without imports, two imports of one key, a task that is put back, a frozen key, and news that is recorded or
 //! comes too late.
 
-ghost use Rattle.std.specs.Prelude.{◌≡◌, ◌+◌, ◌≤◌, None, IfOk, OnOk, length};
+ghost use Rattle.std.specs.Prelude.{◌≡◌, ◌+◌, ◌≤◌, ◌∷◌, [], None, IfOk, OnOk, length};
 ghost use Rattle.dh_syntax.specs.declared.expressions.Op.TheVariants as ops;
+ghost use Rattle.dh_syntax.specs.declared.locations.Loc.TheVariants as locs;
 ghost use Rattle.dh_syntax.specs.Expressions.Bridge.{term};
 ghost use Rattle.dh_syntax.specs.Expressions.Tree.{Node, end};
 ghost use Rattle.dh_table.specs.Brought.{BringsText, BringsOutcome};
@@ -15,13 +16,15 @@ use dh_syntax::{
 use std::alloc::{AllocError, Global};
 use std::test::Fail;
 
-fn here(alloc: Global, file: &str) -> Result<Loc, AllocError> {
+pub(crate) fn here(alloc: Global, file: &str) -> Result<Loc, AllocError>
+    ensures { IfOk result (λ l. l ≡ locs.Here (file.now ∷ [])) }
+{
     let mut comps = Many::new(alloc);
     comps.push(Piece::new(alloc, file)?)?;
     Ok(Loc::Here(comps))
 }
 
-fn import(alloc: Global, file: &str, digest: Option<Digest>) -> Result<Kid, AllocError> {
+pub(crate) fn import(alloc: Global, file: &str, digest: Option<Digest>) -> Result<Kid, AllocError> {
     let import = Import {
         loc: here(alloc, file)?,
         mode: Mode::Code,
@@ -35,7 +38,7 @@ fn import(alloc: Global, file: &str, digest: Option<Digest>) -> Result<Kid, Allo
 }
 
 /// A list of so many imports, each of a key of its own.
-fn imports(alloc: Global, count: usize) -> Result<Expr, AllocError> {
+pub(crate) fn imports(alloc: Global, count: usize) -> Result<Expr, AllocError> {
     let mut kids = Many::new(alloc);
     for n in 0..count {
         let file = format!(in alloc; "{n}")?;
@@ -44,7 +47,7 @@ fn imports(alloc: Global, count: usize) -> Result<Expr, AllocError> {
     Ok(Expr::Node(Op::List, kids))
 }
 
-fn opened(alloc: Global, root: Expr) -> Result<Table<Silent>, AllocError> {
+pub(crate) fn opened(alloc: Global, root: Expr) -> Result<Table<Silent>, AllocError> {
     match Table::open(alloc, root) {
         Ok(table) => Ok(table),
         Err(_) => Err(AllocError),
@@ -52,7 +55,7 @@ fn opened(alloc: Global, root: Expr) -> Result<Table<Silent>, AllocError> {
 }
 
 /// A claim, with the room that it needs.
-fn claimed(table: &mut Table<Silent>, worker: u32) -> Result<Claimed, AllocError> {
+pub(crate) fn claimed(table: &mut Table<Silent>, worker: u32) -> Result<Claimed, AllocError> {
     let Some(room) = table.in_flight().checked_add(3) else {
         return Err(AllocError);
     };
@@ -61,7 +64,7 @@ fn claimed(table: &mut Table<Silent>, worker: u32) -> Result<Claimed, AllocError
 }
 
 /// The ticket of a claim that hands out a task.
-fn task(table: &mut Table<Silent>, worker: u32) -> Result<Ticket, AllocError> {
+pub(crate) fn task(table: &mut Table<Silent>, worker: u32) -> Result<Ticket, AllocError> {
     match claimed(table, worker)? {
         Claimed::Task(ticket) => Ok(ticket),
         Claimed::Idle | Claimed::Over => Err(AllocError),
@@ -132,7 +135,7 @@ fn one_finished(alloc: Global) -> Result<News, AllocError>
 }
 
 /// Makes room for one more step.
-fn make_room(table: &mut Table<Silent>) -> Result<(), AllocError>
+pub(crate) fn make_room(table: &mut Table<Silent>) -> Result<(), AllocError>
     ensures { OnOk result (length table.new.flights + 1 ≤ table.new.spare) }
 {
     let Some(room) = table.in_flight().checked_add(1) else {
@@ -142,7 +145,7 @@ fn make_room(table: &mut Table<Silent>) -> Result<(), AllocError>
 }
 
 /// Whether news is recorded.
-fn is_kept(taken: Taken) -> bool {
+pub(crate) fn is_kept(taken: Taken) -> bool {
     match taken {
         Taken::Kept => true,
         Taken::Late(_ticket, _serial) => false,

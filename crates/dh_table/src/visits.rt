@@ -1,14 +1,13 @@
 //! Which task of a key is due, and to which keys it leads.
 
 ghost use Rattle.std.specs.Prelude.{◌<◌, ◌≤◌, All, length};
-ghost use Rattle.dh_syntax.specs.declared.locations.Key.{Key};
-ghost use Rattle.dh_syntax.specs.Imports.Machine.{IsAmong, leads_by};
+ghost use Rattle.dh_syntax.specs.Imports.Machine.{leads_by};
 ghost use Rattle.dh_syntax.specs.Imports.Resolver as resolver;
 ghost use Rattle.dh_syntax.specs.Imports.Resolver.{of_plan, stage};
 ghost use Rattle.dh_demand.specs.Results.{ask_of};
 ghost use Rattle.dh_demand.specs.Wants.{AreMarked};
 ghost use Rattle.dh_table.specs.Inside.Entering.{IsListed};
-ghost use Rattle.dh_table.specs.Inside.Reading.{record_by, IsRead, IsNumbered, IsPlan, IsReach};
+ghost use Rattle.dh_table.specs.Inside.Reading.{record_by, IsRead, IsPlan, IsReach};
 ghost use Rattle.dh_table.specs.States.{rows_of, key_named};
 
 use crate::entrants::Entrants;
@@ -26,27 +25,6 @@ pub(crate) enum Reach {
     Wait(u32),
 }
 
-/// What is left to do for the key of this number. Marks the keys to which it leads.
-pub(crate) fn visit(
-    keys: &Entrants,
-    texts: &Texts<'_>,
-    looks: &Looks<'_>,
-    n: u32,
-    marks: &mut Marks,
-) -> Reach
-    requires inside { n < length keys.now }
-    requires listed { All (IsListed (rows_of keys.now)) keys.now }
-    requires read { All (IsRead (rows_of keys.now)) texts.now }
-    requires marks { length keys.now ≤ length marks.old }
-    ensures reach { IsReach (rows_of keys.now) (key_named keys.now n) (stage (record_by texts.now looks.now) (ask_of (rows_of keys.now)) (key_named keys.now n)) result }
-    ensures marks { AreMarked (rows_of keys.now) (leads_by (ask_of (rows_of keys.now)) (key_named keys.now n) (resolver.plan (record_by texts.now looks.now) (key_named keys.now n))) marks.old marks.new }
-    ensures numbered { (j : Key) → IsAmong j (leads_by (ask_of (rows_of keys.now)) (key_named keys.now n) (resolver.plan (record_by texts.now looks.now) (key_named keys.now n))) → IsNumbered (rows_of keys.now) j }
-{
-    let plan = plan_of(keys, texts, looks, n);
-    mark_leads(keys, n, plan, marks);
-    reach_of(keys, n, plan)
-}
-
 /// What is left to do for the key of this number.
 pub(crate) fn look_ahead(keys: &Entrants, texts: &Texts<'_>, looks: &Looks<'_>, n: u32) -> Reach
     requires inside { n < length keys.now }
@@ -58,7 +36,8 @@ pub(crate) fn look_ahead(keys: &Entrants, texts: &Texts<'_>, looks: &Looks<'_>, 
     reach_of(keys, n, plan)
 }
 
-fn reach_of(keys: &Entrants, n: u32, plan: Plan<'_>) -> Reach
+/// What is left to do for a key with this plan.
+pub(crate) fn reach_of(keys: &Entrants, n: u32, plan: Plan<'_>) -> Reach
     requires inside { n < length keys.now }
     requires plan { (p : resolver.Plan) × IsPlan (rows_of keys.now) (key_named keys.now n) p plan }
     ensures { (p : resolver.Plan) → IsPlan (rows_of keys.now) (key_named keys.now n) p plan.entry → IsReach (rows_of keys.now) (key_named keys.now n) (of_plan (ask_of (rows_of keys.now)) (key_named keys.now n) p) result }
@@ -78,7 +57,8 @@ fn reach_of(keys: &Entrants, n: u32, plan: Plan<'_>) -> Reach
     }
 }
 
-fn mark_leads(keys: &Entrants, n: u32, plan: Plan<'_>, marks: &mut Marks)
+/// Marks the keys to which a key with this plan leads.
+pub(crate) fn mark_leads(keys: &Entrants, n: u32, plan: Plan<'_>, marks: &mut Marks)
     requires inside { n < length keys.now }
     requires plan { (p : resolver.Plan) × IsPlan (rows_of keys.now) (key_named keys.now n) p plan }
     requires marks { length keys.now ≤ length marks.old }

@@ -1,6 +1,6 @@
 -- Which words name a command.
 use Rattle.std.proofs.Common.{◌≡◌, ℕ, ◌<◌, ◌≤◌, ◌^◌, List, [], ◌∷◌, length, Bool, true, false, true≢false, Option, Some, None, Result, Ok, Err, if◌then◌else◌, codes, refl, sym, ap, ◌∙◌, subst, arith, nat_le}
-use Rattle.std.specs.Prelude.{◌&&◌, ◌==◌, not, slice_index_or, MatchResult}
+use Rattle.std.specs.Prelude.{◌&&◌, ◌==◌, not, cond, find, option_map, slice_index_or, MatchResult}
 use Rattle.std.specs.Char.{is_ascii_digit}
 use Rattle.std.specs.List.{list_all}
 use Rattle.std.specs.Result.{OkIff, result_ok}
@@ -13,26 +13,28 @@ use Rattle.dh_syntax.specs.declared.verbs.Verb.{Verb}
 use Rattle.dh_syntax.specs.Limits.{most_workers, default_workers}
 use Rattle.dh_syntax.proofs.Numbers.{bytes_eq-true}
 use Rattle.dh_syntax.specs.Expressions.Numbers.{bytes_eq}
-use Rattle.dh_syntax.specs.Command.Words.{Word, verb_of, is_count, workers_of, operands, options}
-use Rattle.dh_syntax.specs.declared.verbs.Verb.TheVariants as verb
+use Rattle.dh_syntax.specs.Command.Words.{Word, named, verb_of, is_count, workers_of, operands, options}
 
-named-none : (w : List ℕ) (a b c d e : Bool) → bytes_eq (codes "encode") w ≡ a → bytes_eq (codes "decode") w ≡ b → bytes_eq (codes "type") w ≡ c
-    → bytes_eq (codes "normalize") w ≡ d → bytes_eq (codes "hash") w ≡ e
-    → (w ≡ codes "encode" → ⊥) → (w ≡ codes "decode" → ⊥) → (w ≡ codes "type" → ⊥) → (w ≡ codes "normalize" → ⊥) → (w ≡ codes "hash" → ⊥)
-    → (if a then Some verb.Encode else if b then Some verb.Decode else if c then Some verb.Type else if d then Some verb.Normalize else if e then Some verb.Hash else None) ≡ None
-named-none w true b c d e h1 h2 h3 h4 h5 k1 k2 k3 k4 k5 = absurd (k1 (sym (bytes_eq-true (codes "encode") w h1)))
-named-none w false true c d e h1 h2 h3 h4 h5 k1 k2 k3 k4 k5 = absurd (k2 (sym (bytes_eq-true (codes "decode") w h2)))
-named-none w false false true d e h1 h2 h3 h4 h5 k1 k2 k3 k4 k5 = absurd (k3 (sym (bytes_eq-true (codes "type") w h3)))
-named-none w false false false true e h1 h2 h3 h4 h5 k1 k2 k3 k4 k5 = absurd (k4 (sym (bytes_eq-true (codes "normalize") w h4)))
-named-none w false false false false true h1 h2 h3 h4 h5 k1 k2 k3 k4 k5 = absurd (k5 (sym (bytes_eq-true (codes "hash") w h5)))
-named-none w false false false false false h1 h2 h3 h4 h5 k1 k2 k3 k4 k5 = refl
+-- a word that is none of these
+abbrev IsNone : List ℕ → List (Word × Verb) → Type 0
+IsNone w [] = Unit {0}
+IsNone w (p ∷ ps) = (w ≡ p.0 → ⊥) × IsNone w ps
+
+abbrev second : Option (Word × Verb) → Option Verb
+second o = option_map (λ p. p.1) o
+
+passed : (w : List ℕ) (p : Word × Verb) (b : Bool) (rest : Option (Word × Verb)) → bytes_eq p.0 w ≡ b → (w ≡ p.0 → ⊥) → second rest ≡ None → second (cond b (Some p) rest) ≡ None
+passed w p true rest e n m = absurd (n (sym (bytes_eq-true p.0 w e)))
+passed w p false rest e n m = m
+
+unnamed : (w : List ℕ) (ps : List (Word × Verb)) → IsNone w ps → second (find (λ p. bytes_eq p.0 w) ps) ≡ None
+unnamed w [] n = refl
+unnamed w (p ∷ ps) n = passed w p (bytes_eq p.0 w) (find (λ p. bytes_eq p.0 w) ps) refl n.0 (unnamed w ps n.1)
 
 -- a word that names no command
-pub verb_of-none : (w : List ℕ) → (w ≡ codes "encode" → ⊥) → (w ≡ codes "decode" → ⊥) → (w ≡ codes "type" → ⊥) → (w ≡ codes "normalize" → ⊥) → (w ≡ codes "hash" → ⊥)
+pub verb_of-none : (w : List ℕ) → (w ≡ codes "encode" → ⊥) → (w ≡ codes "decode" → ⊥) → (w ≡ codes "resolve" → ⊥) → (w ≡ codes "type" → ⊥) → (w ≡ codes "normalize" → ⊥) → (w ≡ codes "hash" → ⊥) → (w ≡ codes "freeze" → ⊥) → (w ≡ codes "help" → ⊥) → (w ≡ codes "--help" → ⊥) → (w ≡ codes "-h" → ⊥) → (w ≡ codes "--version" → ⊥)
     → None ≡ verb_of w
-verb_of-none w k1 k2 k3 k4 k5 =
-    sym (named-none w (bytes_eq (codes "encode") w) (bytes_eq (codes "decode") w) (bytes_eq (codes "type") w) (bytes_eq (codes "normalize") w) (bytes_eq (codes "hash") w)
-    refl refl refl refl refl k1 k2 k3 k4 k5)
+verb_of-none w k1 k2 k3 k4 k5 k6 k7 k8 k9 k10 k11 = sym (unnamed w named (k1, (k2, (k3, (k4, (k5, (k6, (k7, (k8, (k9, (k10, (k11, tt))))))))))))
 
 -- ---- numbers of workers
 

@@ -1,8 +1,14 @@
+pub mod Closing
 pub mod Commands
+pub mod Devices
 pub mod Encodings
+pub mod Filing
+pub mod Finding
 pub mod Forms
-pub mod ImportWalks
 pub mod Normals
+pub mod PlacedReplies
 pub mod Reading
+pub mod Resolutions
 pub mod RunLaws
+pub mod TypedReplies
 pub mod Writing

@@ -10,6 +10,7 @@ use Rattle.dh_syntax.specs.Command.Answer.{Response, TypedAnswer, IsTypedInTime,
 use Rattle.dh_syntax.specs.Command.Words.{takes_form}
 use Rattle.dh_syntax.specs.Expressions.Nesting.{nesting}
 use Rattle.dh_syntax.specs.Expressions.Tree.{Term}
+use Rattle.dh_syntax.specs.Imports.Readings.{Reading}
 use Rattle.dh_syntax.specs.Limits.{whole_purse}
 use Rattle.dh_syntax.specs.Normalising.Heads.{Answer, Found, Wide, Over, Whole, run}
 use Rattle.dh_syntax.specs.Normalising.Named.{names}
@@ -44,17 +45,17 @@ normal_limits e f left limit.Deep p deep n h = deep h
 normal_limits e f left limit.Memory p deep n h = n refl
 
 -- what is answered where it has a type for which no limit may be named, and where its normal form is in time
-typed_ends_ok : (v : Verb) (text : List ℕ) (e : Term) (w : Response) → IsTypedInTime e
+typed_ends_ok : (v : Verb) (i : Reading) (e : Term) (w : Response) → IsTypedInTime e
     → ((l : NormFault) → (l ≡ limit.Memory → ⊥) → IsTrue (takes_form v) → IsLicensed names nesting whole_purse e l → ⊥)
-    → TypedAnswer v text e w → w.status ≡ status.Ok
-typed_ends_ok v text e w time forms (prints t bytes h p u) = ap (λ w. w.status) u
-typed_ends_ok v text e w time forms (refuses nodes f s h u) = absurd (type_or_refusal [] e time.0.0 time.0.1.0 f.path f.rule time.0.1.1 h)
-typed_ends_ok v text e w time forms (limited l n (inl h) u) = absurd (time.1 l n h)
-typed_ends_ok v text e w time forms (limited l n (inr (takes, t, h)) u) = absurd (forms l n takes h)
+    → TypedAnswer v i e w → w.status ≡ status.Ok
+typed_ends_ok v i e w time forms (prints t bytes h p u) = ap (λ w. w.status) u
+typed_ends_ok v i e w time forms (refuses f bytes h l u) = absurd (type_or_refusal [] e time.0.0 time.0.1.0 f.path f.rule time.0.1.1 h)
+typed_ends_ok v i e w time forms (limited l n (inl h) u) = absurd (time.1 l n h)
+typed_ends_ok v i e w time forms (limited l n (inr (takes, t, h)) u) = absurd (forms l n takes h)
 
-pub type_ends_ok : (text : List ℕ) (e : Term) (w : Response) → IsTypedInTime e → TypedAnswer verb.Type text e w → w.status ≡ status.Ok
-type_ends_ok text e w time a = typed_ends_ok verb.Type text e w time (λ l n takes h. true≢false (sym takes)) a
+pub type_ends_ok : (i : Reading) (e : Term) (w : Response) → IsTypedInTime e → TypedAnswer verb.Type i e w → w.status ≡ status.Ok
+type_ends_ok i e w time a = typed_ends_ok verb.Type i e w time (λ l n takes h. true≢false (sym takes)) a
 
-pub form_ends_ok : (v : Verb) (text : List ℕ) (e : Term) (w : Response) → IsTypedInTime e → IsNormalInTime e → TypedAnswer v text e w → w.status ≡ status.Ok
-form_ends_ok v text e w time form a =
-    typed_ends_ok v text e w time (λ l n takes h. normal_limits e form.0.0 form.0.1 l form.0.2 form.1 n h) a
+pub form_ends_ok : (v : Verb) (i : Reading) (e : Term) (w : Response) → IsTypedInTime e → IsNormalInTime e → TypedAnswer v i e w → w.status ≡ status.Ok
+form_ends_ok v i e w time form a =
+    typed_ends_ok v i e w time (λ l n takes h. normal_limits e form.0.0 form.0.1 l form.0.2 form.1 n h) a

@@ -1,6 +1,6 @@
 -- What a run says of its words and of its devices.
-use Rattle.std.proofs.Common.{◌≡◌, ◌⊎◌, inl, inr, ℕ, List, Option, Some, None, Result, Ok, Err, IfOk, IfSome, Bool, true, false, true≢false, refl, sym, ap, ◌∙◌, subst, arith}
-use Rattle.std.specs.Prelude.{MatchBool}
+use Rattle.std.proofs.Common.{◌≡◌, ◌⊎◌, inl, inr, ℕ, List, [], Option, Some, None, Result, Ok, Err, IfOk, IfSome, Bool, true, false, true≢false, refl, sym, ap, ◌∙◌, subst, arith}
+use Rattle.std.specs.Prelude.{MatchBool, IsTrue, OnErr}
 use Rattle.std.specs.declared.alloc.AllocError.{AllocError}
 use Rattle.dh_grammar.proofs.Results.Answering.{parses_once}
 use Rattle.dh_ports.specs.Counts.{Rose}
@@ -12,16 +12,28 @@ use Rattle.dh_syntax.specs.declared.statuses.Status.{Status}
 use Rattle.dh_syntax.specs.declared.statuses.Status.TheVariants as status
 use Rattle.dh_syntax.specs.declared.verbs.Verb.{Verb}
 use Rattle.dh_syntax.specs.declared.verbs.Verb.TheVariants as verb
-use Rattle.dh_syntax.specs.Command.Answer.{Response, Does, IsTypedInTime, IsNormalInTime, encodes, decodes, decodes_none, spells, spells_none, leaves_out, usage, does, encoded, decoded, Succeeds}
-use Rattle.dh_syntax.specs.Command.LeftOut.{has_imports}
-use Rattle.dh_syntax.specs.Command.Words.{Word, command_of, reads}
+use Rattle.dh_syntax.specs.Command.Answer.{Response, Does, ResolvedAnswer, ValuedAnswer, encodes, decodes, decodes_none, spells, spells_none, helps, tells_version, valued, faulty, circular, overfull, itself, frozen, typed, usage, does, encoded, decoded, without_memory, Succeeds, SucceedsBy, SucceedsOn}
+use Rattle.dh_syntax.specs.Command.Words.{Word, command_of, reads, resolves as does_resolve}
 use Rattle.dh_syntax.specs.Expressions.Tree.{Term}
+use Rattle.dh_syntax.specs.Imports.Readings.{Reading, root_reading}
+use Rattle.dh_syntax.specs.Imports.Records.{Record}
+use Rattle.dh_syntax.specs.Imports.Replay.{RootEnd, ready, bad, looped, too_many, end_of}
+use Rattle.dh_syntax.specs.Imports.Resolver.{ResolvesRoot, resolve}
+use Rattle.dh_syntax.specs.Imports.RootEnds.{EndsBy, resolved, overflows}
+use Rattle.dh_syntax.specs.Imports.Walk.{Walked, Ready, Fails, Turns, Needs, walk}
 use Rattle.dh_syntax.specs.Text.Spelling.{ParsesTo}
-use Rattle.dh_top.proofs.Encodings.{all_read}
+use Rattle.dh_laws.proofs.KeyOrder.{none-some, some-equal}
+use Rattle.dh_import_laws.specs.ImportLaws.{IsDecided}
+use Rattle.dh_import_laws.proofs.Facts.{decided_same}
+use Rattle.dh_import_laws.proofs.Grow.{plus, rises-plus, rises-plus_left, resolve-rises}
+use Rattle.dh_import_laws.proofs.Walks.{Knows, Grown, walk-grown}
+use Rattle.dh_top.proofs.Devices.{told_device}
+use Rattle.dh_top.proofs.Encodings.{resolving_reads}
 use Rattle.dh_top.proofs.Normals.{type_ends_ok, form_ends_ok}
 use Rattle.dh_top.specs.declared.replies.Reply.{Reply}
-use Rattle.dh_top.specs.Replies.{written}
-use Rattle.dh_top.specs.Runs.{Input, Output, Makes, answers, cannot_read, lacks_memory, Delivers, whole, out_failed, err_failed, Runs, Works, IsRead, IsTaken, IsLeft, reading}
+use Rattle.dh_top.specs.Outside.{Outside, nothing_found}
+use Rattle.dh_top.specs.Replies.{written, IsMade}
+use Rattle.dh_top.specs.Runs.{Input, Output, Makes, DeskFailed, answers, cannot_read, lacks_memory, LacksMemory, Delivers, whole, out_failed, err_failed, Runs, Works, IsRead, IsTaken, IsLeft, reading}
 
 -- a command line is no misuse, and asks for one command
 abbrev is_ok : Result Command ℕ → Bool
@@ -42,9 +54,13 @@ ok_is c d r e f = ap (command_or c) (sym e ∙ f)
 abbrev number : Verb → ℕ
 number verb.Encode = 0
 number verb.Decode = 1
-number verb.Type = 2
-number verb.Normalize = 3
-number verb.Hash = 4
+number verb.Resolve = 2
+number verb.Type = 3
+number verb.Normalize = 4
+number verb.Hash = 5
+number verb.Freeze = 6
+number verb.Help = 7
+number verb.Version = 8
 
 apart : (u v : Verb) → u ≡ v → (number u ≡ number v → ⊥) → ⊥
 apart u v e n = n (ap number e)
@@ -75,58 +91,150 @@ is_spelled (Err f) = false
 pub not_both : (text : List ℕ) (e : Term) (f : ParseFault) → ParsesTo text (Ok e) → ParsesTo text (Err f) → ⊥
 not_both text e f p q = true≢false (ap is_spelled (parses_once text (Ok e) (Err f) p q))
 
-not_left : (text : List ℕ) (d e : Term) → ParsesTo text (Ok d) → ParsesTo text (Ok e) → has_imports d ≡ true → has_imports e ≡ false → ⊥
-not_left text d e q p n none = true≢false (sym n ∙ ap has_imports (same_term text d e q p) ∙ none)
+-- ---- a root that ends well
 
-done : (v : Verb) (text : List ℕ) (w : Response) → Succeeds v text → Does v text w → w.status ≡ status.Ok
-done verb.Encode text w s (encodes o h p q) = ap (λ w. w.status) q ∙ ok_when_parsed o s.0 (parses_once text o (Ok s.0) p s.1)
-done verb.Decode text w s (decodes o h l p q) = ap (λ w. w.status) q ∙ ok_when_read o s.0 (decodes-unique text o (Ok s.0) p s.2)
-done verb.Decode text w s (decodes_none h l q) = absurd (let k = s.1 in omega (arith, k, l))
-done verb.Type text w (e, p, none, time) (spells d h q n a) = type_ends_ok text d w (subst IsTypedInTime (same_term text e d p q) time) a
-done verb.Normalize text w (e, p, none, time, form) (spells d h q n a) =
-    form_ends_ok verb.Normalize text d w (subst IsTypedInTime (same_term text e d p q) time) (subst IsNormalInTime (same_term text e d p q) form) a
-done verb.Hash text w (e, p, none, time, form) (spells d h q n a) =
-    form_ends_ok verb.Hash text d w (subst IsTypedInTime (same_term text e d p q) time) (subst IsNormalInTime (same_term text e d p q) form) a
-done verb.Type text w (e, p, none, time) (spells_none g h q u) = absurd (not_both text e g p q)
-done verb.Normalize text w (e, p, none, time, form) (spells_none g h q u) = absurd (not_both text e g p q)
-done verb.Hash text w (e, p, none, time, form) (spells_none g h q u) = absurd (not_both text e g p q)
-done verb.Type text w (e, p, none, time) (leaves_out d h q n u) = absurd (not_left text d e q p n none)
-done verb.Normalize text w (e, p, none, time, form) (leaves_out d h q n u) = absurd (not_left text d e q p n none)
-done verb.Hash text w (e, p, none, time, form) (leaves_out d h q n u) = absurd (not_left text d e q p n none)
-done verb.Encode text w s (decodes o h l p q) = absurd (apart _ _ h (λ n. omega (arith, n)))
-done verb.Encode text w s (decodes_none h l q) = absurd (apart _ _ h (λ n. omega (arith, n)))
-done verb.Encode text w s (spells d h q n a) = absurd (true≢false (sym h))
-done verb.Encode text w s (spells_none g h q u) = absurd (true≢false (sym h))
-done verb.Encode text w s (leaves_out d h q n u) = absurd (true≢false (sym h))
-done verb.Decode text w s (encodes o h p q) = absurd (apart _ _ h (λ n. omega (arith, n)))
-done verb.Decode text w s (spells d h q n a) = absurd (true≢false (sym h))
-done verb.Decode text w s (spells_none g h q u) = absurd (true≢false (sym h))
-done verb.Decode text w s (leaves_out d h q n u) = absurd (true≢false (sym h))
-done verb.Type text w s (encodes o h p q) = absurd (apart _ _ h (λ n. omega (arith, n)))
-done verb.Type text w s (decodes o h l p q) = absurd (apart _ _ h (λ n. omega (arith, n)))
-done verb.Type text w s (decodes_none h l q) = absurd (apart _ _ h (λ n. omega (arith, n)))
-done verb.Normalize text w s (encodes o h p q) = absurd (apart _ _ h (λ n. omega (arith, n)))
-done verb.Normalize text w s (decodes o h l p q) = absurd (apart _ _ h (λ n. omega (arith, n)))
-done verb.Normalize text w s (decodes_none h l q) = absurd (apart _ _ h (λ n. omega (arith, n)))
-done verb.Hash text w s (encodes o h p q) = absurd (apart _ _ h (λ n. omega (arith, n)))
-done verb.Hash text w s (decodes o h l p q) = absurd (apart _ _ h (λ n. omega (arith, n)))
-done verb.Hash text w s (decodes_none h l q) = absurd (apart _ _ h (λ n. omega (arith, n)))
+-- what is known with so much to spend is known with more
+knows_left : (r : Record) (m n : ℕ) → Knows (resolve r m []) (resolve r (plus m n) [])
+knows_left r m n k o h = rises-plus_left (λ z. resolve r z [] k) (λ z p e. resolve-rises r z [] k p e) m n o h
 
-same_text : (words : List Word) (c : Command) (text left : List ℕ) (input : Input) → input.before ≡ Some left → command_of words ≡ Ok c
+knows_right : (r : Record) (m n : ℕ) → Knows (resolve r n []) (resolve r (plus m n) [])
+knows_right r m n k o h = rises-plus (λ z. resolve r z [] k) (λ z p e. resolve-rises r z [] k p e) m n o h
+
+end_decided : (w : Walked Term) (e : RootEnd) → end_of w ≡ Some e → IsDecided w
+end_decided (Ready v) e h = tt
+end_decided (Fails b) e h = tt
+end_decided (Turns j) e h = tt
+end_decided (Needs k) e h = none-some refl h
+
+one_walk : (r : Record) (root : Term) (v w : Walked Term) → IsDecided v → IsDecided w → ResolvesRoot r root v → ResolvesRoot r root w → v ≡ w
+one_walk r root v w dv dw (m, p) (n, q) =
+    let all = resolve r (plus m n) [] in
+    let left : walk None all root ≡ v =
+    decided_same all v (walk None all root) (subst (λ x. Grown all x (walk None all root)) p (walk-grown None (resolve r m []) all (knows_left r m n) root)) dv in
+    let right : walk None all root ≡ w =
+    decided_same all w (walk None all root) (subst (λ x. Grown all x (walk None all root)) q (walk-grown None (resolve r n []) all (knows_right r m n) root)) dw in
+    sym left ∙ right
+
+-- the root has one end
+pub one_root_end : (r : Record) (root : Term) (e f : RootEnd) → EndsBy r root e → EndsBy r root f → e ≡ f
+one_root_end r root e f (resolved v few p a) (resolved w less q b) =
+    some-equal (sym a ∙ (ap end_of (one_walk r root v w (end_decided v e a) (end_decided w f b) p q) ∙ b))
+one_root_end r root e f (resolved v few p a) (overflows many) = absurd (true≢false (sym many ∙ few))
+one_root_end r root e f (overflows many) (resolved w few q b) = absurd (true≢false (sym many ∙ few))
+one_root_end r root e f (overflows many) (overflows more) = refl
+
+abbrev is_ready : RootEnd → Bool
+is_ready (ready v) = true
+is_ready _ = false
+
+abbrev ready_or : Term → RootEnd → Term
+ready_or d (ready v) = v
+ready_or d _ = d
+
+resolved_done : (v : Verb) (text : List ℕ) (r : Record) (root e : Term) (w : Response) → EndsBy r root (ready e)
+    → ((i : Reading) → ValuedAnswer v i e w → w.status ≡ status.Ok) → ResolvedAnswer v text root r w → w.status ≡ status.Ok
+resolved_done v text r root e w by ok (valued x ask here value a) =
+    ok (root_reading text root ask) (subst (λ y. ValuedAnswer v (root_reading text root ask) y w) (ap (ready_or e) (one_root_end r root (ready x) (ready e) here by)) a)
+resolved_done v text r root e w by ok (faulty b here a) = absurd (true≢false (ap is_ready (one_root_end r root (ready e) (bad b) by here)))
+resolved_done v text r root e w by ok (circular j here a) = absurd (true≢false (ap is_ready (one_root_end r root (ready e) (looped j) by here)))
+resolved_done v text r root e w by ok (overfull here a) = absurd (true≢false (ap is_ready (one_root_end r root (ready e) too_many by here)))
+
+-- ---- a command on an input that it answers succeeds
+
+unresolved : (u v : Verb) → does_resolve u ≡ false → IsTrue (does_resolve v) → v ≡ u → ⊥
+unresolved u v n t h = true≢false (sym (subst (λ v. does_resolve v ≡ true) h t) ∙ n)
+
+done_by : (v : Verb) (text : List ℕ) (r : Record) (w : Response) → IsTrue (does_resolve v) → SucceedsBy v text r
+    → ((e : Term) → SucceedsOn v e → (i : Reading) → ValuedAnswer v i e w → w.status ≡ status.Ok) → Does v text r w → w.status ≡ status.Ok
+done_by v text r w t s ok (encodes o h p q) = absurd (unresolved verb.Encode v refl t h)
+done_by v text r w t s ok (decodes o h l p q) = absurd (unresolved verb.Decode v refl t h)
+done_by v text r w t s ok (decodes_none h l q) = absurd (unresolved verb.Decode v refl t h)
+done_by v text r w t (root, e, p, by, on) ok (spells d h q a) =
+    resolved_done v text r d e w (subst (λ d. EndsBy r d (ready e)) (same_term text root d p q) by) (ok e on) a
+done_by v text r w t (root, e, p, by, on) ok (spells_none f h q u) = absurd (not_both text root f p q)
+done_by v text r w t s ok (helps h q) = absurd (unresolved verb.Help v refl t h)
+done_by v text r w t s ok (tells_version h q) = absurd (unresolved verb.Version v refl t h)
+
+resolve_ok : (w : Response) (e : Term) → SucceedsOn verb.Resolve e → (i : Reading) → ValuedAnswer verb.Resolve i e w → w.status ≡ status.Ok
+resolve_ok w e s i (itself h u) = ap (λ w. w.status) u
+resolve_ok w e s i (frozen bytes h z u) = absurd (apart _ _ h (λ n. omega (arith, n)))
+resolve_ok w e s i (typed t a) = absurd (true≢false (sym t))
+
+type_ok : (w : Response) (e : Term) → SucceedsOn verb.Type e → (i : Reading) → ValuedAnswer verb.Type i e w → w.status ≡ status.Ok
+type_ok w e s i (itself h u) = absurd (apart _ _ h (λ n. omega (arith, n)))
+type_ok w e s i (frozen bytes h z u) = absurd (apart _ _ h (λ n. omega (arith, n)))
+type_ok w e s i (typed t a) = type_ends_ok i e w s a
+
+normalize_ok : (w : Response) (e : Term) → SucceedsOn verb.Normalize e → (i : Reading) → ValuedAnswer verb.Normalize i e w → w.status ≡ status.Ok
+normalize_ok w e s i (itself h u) = absurd (apart _ _ h (λ n. omega (arith, n)))
+normalize_ok w e s i (frozen bytes h z u) = absurd (apart _ _ h (λ n. omega (arith, n)))
+normalize_ok w e s i (typed t a) = form_ends_ok verb.Normalize i e w s.0 s.1 a
+
+hash_ok : (w : Response) (e : Term) → SucceedsOn verb.Hash e → (i : Reading) → ValuedAnswer verb.Hash i e w → w.status ≡ status.Ok
+hash_ok w e s i (itself h u) = absurd (apart _ _ h (λ n. omega (arith, n)))
+hash_ok w e s i (frozen bytes h z u) = absurd (apart _ _ h (λ n. omega (arith, n)))
+hash_ok w e s i (typed t a) = form_ends_ok verb.Hash i e w s.0 s.1 a
+
+freeze_ok : (w : Response) (e : Term) → SucceedsOn verb.Freeze e → (i : Reading) → ValuedAnswer verb.Freeze i e w → w.status ≡ status.Ok
+freeze_ok w e s i (itself h u) = absurd (apart _ _ h (λ n. omega (arith, n)))
+freeze_ok w e s i (frozen bytes h z u) = ap (λ w. w.status) u
+freeze_ok w e s i (typed t a) = absurd (true≢false (sym t))
+
+-- a command that leaves its input alone
+read_not : (u v : Verb) → reads u ≡ true → reads v ≡ false → v ≡ u → ⊥
+read_not u v t n e = true≢false (sym (ap reads e ∙ t) ∙ n)
+
+told_ok : (v : Verb) (text : List ℕ) (r : Record) (w : Response) → reads v ≡ false → Does v text r w → w.status ≡ status.Ok
+told_ok v text r w n (encodes o h p q) = absurd (read_not verb.Encode v refl n h)
+told_ok v text r w n (decodes o h l p q) = absurd (read_not verb.Decode v refl n h)
+told_ok v text r w n (decodes_none h l q) = absurd (read_not verb.Decode v refl n h)
+told_ok v text r w n (spells d h q a) = absurd (true≢false (sym (resolving_reads v h) ∙ n))
+told_ok v text r w n (spells_none g h q u) = absurd (true≢false (sym (resolving_reads v h) ∙ n))
+told_ok v text r w n (helps h q) = ap (λ w. w.status) q
+told_ok v text r w n (tells_version h q) = ap (λ w. w.status) q
+
+done : (v : Verb) (text : List ℕ) (r : Record) (w : Response) → Succeeds v text r → Does v text r w → w.status ≡ status.Ok
+done verb.Encode text r w s (encodes o h p q) = ap (λ w. w.status) q ∙ ok_when_parsed o s.0 (parses_once text o (Ok s.0) p s.1)
+done verb.Encode text r w s (decodes o h l p q) = absurd (apart _ _ h (λ n. omega (arith, n)))
+done verb.Encode text r w s (decodes_none h l q) = absurd (apart _ _ h (λ n. omega (arith, n)))
+done verb.Encode text r w s (spells d h q a) = absurd (true≢false (sym h))
+done verb.Encode text r w s (spells_none g h q u) = absurd (true≢false (sym h))
+done verb.Encode text r w s (helps h q) = absurd (apart _ _ h (λ n. omega (arith, n)))
+done verb.Encode text r w s (tells_version h q) = absurd (apart _ _ h (λ n. omega (arith, n)))
+done verb.Decode text r w s (encodes o h p q) = absurd (apart _ _ h (λ n. omega (arith, n)))
+done verb.Decode text r w s (decodes o h l p q) = ap (λ w. w.status) q ∙ ok_when_read o s.0 (decodes-unique text o (Ok s.0) p s.2)
+done verb.Decode text r w s (decodes_none h l q) = absurd (let k = s.1 in omega (arith, k, l))
+done verb.Decode text r w s (spells d h q a) = absurd (true≢false (sym h))
+done verb.Decode text r w s (spells_none g h q u) = absurd (true≢false (sym h))
+done verb.Decode text r w s (helps h q) = absurd (apart _ _ h (λ n. omega (arith, n)))
+done verb.Decode text r w s (tells_version h q) = absurd (apart _ _ h (λ n. omega (arith, n)))
+done verb.Resolve text r w s d = done_by verb.Resolve text r w refl s (resolve_ok w) d
+done verb.Type text r w s d = done_by verb.Type text r w refl s (type_ok w) d
+done verb.Normalize text r w s d = done_by verb.Normalize text r w refl s (normalize_ok w) d
+done verb.Hash text r w s d = done_by verb.Hash text r w refl s (hash_ok w) d
+done verb.Freeze text r w s d = done_by verb.Freeze text r w refl s (freeze_ok w) d
+done verb.Help text r w s d = told_ok verb.Help text r w refl d
+done verb.Version text r w s d = told_ok verb.Version text r w refl d
+
+same_text : (words : List Word) (c : Command) (text left : List ℕ) (input : Input) → reads c.verb ≡ true → input.before ≡ Some left → command_of words ≡ Ok c
     → IsRead (command_of words) text input → text ≡ left
-same_text words c text left input b e r =
+same_text words c text left input t b e r =
     let read : IsRead (Ok c) text input = subst (λ c. IsRead c text input) e r in
-    subst (λ o. IfSome o (λ l. text ≡ l)) b (taken_by (reads c.verb) text input (all_read c.verb) read).0
+    subst (λ o. IfSome o (λ l. text ≡ l)) b (taken_by (reads c.verb) text input t read).0
 
-fine : (words : List Word) (c : Command) (left : List ℕ) (input : Input) (w : Response) → input.before ≡ Some left → command_of words ≡ Ok c → Succeeds c.verb left
-    → (Rose input.faults_before input.faults_after → ⊥) → Makes words input w → (w.status ≡ status.Ok) ⊎ (w.status ≡ status.Memory)
-fine words c left input w b e s n (answers text r (usage k h u)) = absurd (ok_not_err c k (command_of words) e h)
-fine words c left input w b e s n (answers text r (does d h q)) =
-    let same = same_text words c text left input b e r in
+ends_ok : (reading : Bool) (words : List Word) (c : Command) (text left : List ℕ) (input : Input) (r : Record) (w : Response) → reads c.verb ≡ reading → input.before ≡ Some left
+    → command_of words ≡ Ok c → IsRead (command_of words) text input → Succeeds c.verb left r → Does c.verb text r w → w.status ≡ status.Ok
+ends_ok true words c text left input r w t b e read s q = done c.verb left r w s (subst (λ t. Does c.verb t r w) (same_text words c text left input t b e read) q)
+ends_ok false words c text left input r w t b e read s q = told_ok c.verb text r w t q
+
+fine : (words : List Word) (c : Command) (left : List ℕ) (input : Input) (o : Outside) (r : Record) (w : Response) → input.before ≡ Some left → command_of words ≡ Ok c
+    → Succeeds c.verb left r → (Rose input.faults_before input.faults_after → ⊥) → Makes words input o r w → (w.status ≡ status.Ok) ⊎ (w.status ≡ status.Memory)
+fine words c left input o r w b e s n (answers text read f (usage k h u)) = absurd (ok_not_err c k (command_of words) e h)
+fine words c left input o r w b e s n (answers text read f (does d h q)) =
     let one = ok_is c d (command_of words) e h in
-    inl (done c.verb left w s (subst (λ t. Does c.verb t w) same (subst (λ d. Does d.verb text w) (sym one) q)))
-fine words c left input w b e s n (cannot_read d h rose u) = absurd (n rose)
-fine words c left input w b e s n (lacks_memory u) = inr (ap (λ w. w.status) u)
+    inl (ends_ok (reads c.verb) words c text left input r w refl b e read s (subst (λ (d : Command). Does d.verb text r w) (sym one) q))
+fine words c left input o r w b e s n (cannot_read d h rose alone u) = absurd (n rose)
+fine words c left input o r w b e s n (lacks_memory l u) = inr (ap (λ w. w.status) u)
 
 fine_whole : (w : Response) (out err : Output) (s : Status) → (w.status ≡ status.Ok) ⊎ (w.status ≡ status.Memory) → (Rose out.faults_before out.faults_after → ⊥)
     → (Rose err.faults_before err.faults_after → ⊥) → Delivers w out err s → (s ≡ status.Ok) ⊎ (s ≡ status.Memory)
@@ -135,22 +243,39 @@ fine_whole w out err s (inr u) p q (whole g h e) = inr (e ∙ u)
 fine_whole w out err s u p q (out_failed g h e) = absurd (p g.failed)
 fine_whole w out err s u p q (err_failed g h e) = absurd (q h.failed)
 
-pub completes : (words : List Word) (before after : Option (List ℕ)) (f g : ℕ) (out err : Output) (s : Status) → Runs words (reading before after f g) out err s
-    → IfSome before (λ text. (c : Command) → command_of words ≡ Ok c → Succeeds c.verb text → Works (reading before after f g) out err → (s ≡ status.Ok) ⊎ (s ≡ status.Memory))
-completes words None after f g out err s r = tt
-completes words (Some left) after f g out err s r =
-    λ c e p works.
-    fine_whole r.written out err s (fine words c left (reading (Some left) after f g) r.written refl e p works.reads r.makes) works.writes works.tells r.delivers
-
 -- a run from what was made and how it was delivered
-pub ran : (words : List Word) (input : Input) (out err : Output) (w v : Response) (s : Status) → Makes words input w → w ≡ v → Delivers v out err s → Runs words input out err s
-ran words input out err w v s m e d = record { written = v; makes = subst (Makes words input) e m; delivers = d }
+pub ran : (words : List Word) (input : Input) (o : Outside) (out err : Output) (r : Record) (w v : Response) (s : Status) → Makes words input o r w → w ≡ v → Delivers v out err s
+    → Runs words input o out err s
+ran words input o out err r w v s m e d = record {
+  found = r;
+  written = v;
+  makes = subst (Makes words input o r) e m;
+  delivers = d;
+  completes = λ c text is before succeeds works.
+      fine_whole v out err s (fine words c text input o r v before is succeeds works.reads (subst (Makes words input o r) e m)) works.writes works.tells d;
+}
 
 -- the same, from the bytes of a reply
-pub ran_reply : (words : List Word) (input : Input) (out err : Output) (r : Result Reply AllocError) (x : Reply) (to_out to_err : List ℕ) (s : Status) → r ≡ Ok x
-    → IfOk r (λ x. Makes words input (written x)) → to_out ≡ x.out.items → to_err ≡ x.err.items
-    → Delivers (record { out = to_out; err = to_err; status = x.status }) out err s → Runs words input out err s
-ran_reply words input out err r x to_out to_err s e m o p d =
-    let made : Makes words input (written x) = subst (λ r. IfOk r (λ x. Makes words input (written x))) e m in
+pub ran_reply : (words : List Word) (input : Input) (o : Outside) (out err : Output) (r : Result Reply AllocError) (x : Reply) (to_out to_err : List ℕ) (s : Status) → r ≡ Ok x
+    → IfOk r (λ x. IsMade words input o (written x)) → to_out ≡ x.out.items → to_err ≡ x.err.items
+    → Delivers (record { out = to_out; err = to_err; status = x.status }) out err s → Runs words input o out err s
+ran_reply words input o out err r x to_out to_err s e m p q d =
+    let made : IsMade words input o (written x) = subst (λ r. IfOk r (λ x. IsMade words input o (written x))) e m in
     let with : List ℕ → List ℕ → Response = λ a b. record { out = a; err = b; status = x.status } in
-    ran words input out err (written x) (with to_out to_err) s made (ap (λ a. with a x.err.items) (sym o) ∙ ap (λ b. with to_out b) (sym p)) d
+    ran words input o out err made.found (written x) (with to_out to_err) s made.makes (ap (λ a. with a x.err.items) (sym p) ∙ ap (λ b. with to_out b) (sym q)) d
+
+-- a failed device is told only where one failed
+pub ran_desk : (words : List Word) (input : Input) (o : Outside) (out err : Output) (r : Result Reply AllocError) (x : Reply) (to_out to_err : List ℕ) (s : Status) → r ≡ Ok x
+    → IfOk r (λ x. IsMade words input o (written x)) → Delivers (record { out = to_out; err = to_err; status = x.status }) out err s → s ≡ status.Desk → DeskFailed o
+ran_desk words input o out err r x to_out to_err s e m d is =
+    let made : IsMade words input o (written x) = subst (λ r. IfOk r (λ x. IsMade words input o (written x))) e m in
+    told_device (record { out = to_out; err = to_err; status = x.status }) o out err s made.devices d is
+
+-- a run for which memory was wanting
+pub ran_lacking : {A : Type 0} (words : List Word) (input : Input) (o : Outside) (out err : Output) (r : Result A AllocError) (e : AllocError) (to_out to_err : List ℕ) (s : Status) → r ≡ Err e
+    → OnErr r (LacksMemory words input o) → to_out ≡ [] → to_err ≡ without_memory.err
+    → Delivers (record { out = to_out; err = to_err; status = status.Memory }) out err s → Runs words input o out err s
+ran_lacking words input o out err r e to_out to_err s is l p q d =
+    let lacks : LacksMemory words input o = subst (λ r. OnErr r (LacksMemory words input o)) is l in
+    let with : List ℕ → List ℕ → Response = λ a b. record { out = a; err = b; status = status.Memory } in
+    ran words input o out err nothing_found without_memory (with to_out to_err) s (lacks_memory lacks refl) (ap (λ a. with a without_memory.err) (sym p) ∙ ap (λ b. with to_out b) (sym q)) d

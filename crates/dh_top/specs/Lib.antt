@@ -1,3 +1,4 @@
 pub mod Inputs
+pub mod Outside
 pub mod Replies
 pub mod Runs

@@ -1,15 +1,18 @@
 -- What one run of the command does to its input and to its two outputs.
-use Rattle.std.specs.Prelude.{◌≡◌, ℕ, suc, ◌<◌, ◌⊎◌, List, [], length, take, Option, IfSome, MatchBool, Result, Ok, Err, IsErr}
+use Rattle.std.specs.Prelude.{◌≡◌, ℕ, suc, ◌<◌, ◌⊎◌, List, [], length, take, Any, Option, Some, IfSome, MatchBool, Result, Ok, Err, IsErr}
 use Rattle.std.specs.Io.{StartsWith}
 use Rattle.std.specs.Io.KnownBytes.{Appends, Consumes, Keeps}
 use Rattle.dh_ports.specs.Counts.{Rose}
 use Rattle.dh_syntax.specs.declared.commands.Command.{Command}
 use Rattle.dh_syntax.specs.declared.statuses.Status.{Status}
 use Rattle.dh_syntax.specs.declared.statuses.Status.TheVariants as status
-use Rattle.dh_syntax.specs.Command.Answer.{Response, CommandAnswer, line, unread, without_memory}
+use Rattle.dh_syntax.specs.Command.Answer.{Response, CommandAnswer, Succeeds, line, unread, without_memory}
 use Rattle.dh_syntax.specs.Command.FaultLines.{read_line, write_line}
+use Rattle.dh_syntax.specs.Imports.Records.{Record}
 use Rattle.dh_syntax.specs.Limits.{most_bytes}
 use Rattle.dh_syntax.specs.Command.Words.{Word, reads, command_of}
+use Rattle.dh_session.specs.Works.{AtLast}
+use Rattle.dh_top.specs.Outside.{Outside, Finds, FilesPart, nothing_found, total}
 
 -- the input before and after a run: what is left, where that is known, and how many reads have failed
 pub record Input : Type 0 where
@@ -44,6 +47,10 @@ abbrev pub IsTaken : List ℕ → Input → Type 0
 IsTaken text input =
     IfSome input.before (λ left. text ≡ left) × Consumes input.before input.after (take most_read text) × IsQuiet input
 
+-- The desks are left alone.
+abbrev pub IsLeftAlone : Outside → Type 0
+IsLeftAlone o = (o.filed_after ≡ o.filed_before) × (o.faults_after ≡ o.faults_before)
+
 -- The input is left alone.
 abbrev pub IsLeft : Input → Type 0
 IsLeft input = Keeps input.before input.after × IsQuiet input
@@ -53,11 +60,22 @@ abbrev pub IsRead : Result Command ℕ → List ℕ → Input → Type 0
 IsRead (Ok c) text input = MatchBool (reads c.verb) (IsTaken text input) (IsLeft input)
 IsRead (Err k) text input = IsLeft input
 
--- What a run has to write: the answer to its words and its input, or one of the two faults that come before an answer.
-pub data Makes (words : List Word) (input : Input) (w : Response) : Type 0 where
-  answers : (text : List ℕ) → IsRead (command_of words) text input → CommandAnswer words text w → Makes words input w
-  cannot_read : (c : Command) → command_of words ≡ Ok c → Rose input.faults_before input.faults_after → w ≡ unread → Makes words input w
-  lacks_memory : w ≡ without_memory → Makes words input w
+-- Words that are no command line find nothing, and leave the desks alone.
+abbrev pub FindsFor : Result Command ℕ → List ℕ → Outside → Record → Type 0
+FindsFor (Ok c) text o r = Finds c.verb text o r
+FindsFor (Err k) text o r = (r ≡ nothing_found) × IsLeftAlone o
+
+-- Where memory is wanting: the first desk has kept nothing, or some of what the run keeps.
+pub data LacksMemory (words : List Word) (input : Input) (o : Outside) : Type 0 where
+  lacks_early : o.filed_after ≡ o.filed_before → LacksMemory words input o
+  lacks_late : (c : Command) (text : List ℕ) → command_of words ≡ Ok c → IsTaken text input → FilesPart c.verb text o → LacksMemory words input o
+
+-- What a run has to write: the answer to its words and its input over what it found by its desks, or one of the two faults that come
+-- before an answer.
+pub data Makes (words : List Word) (input : Input) (o : Outside) (r : Record) (w : Response) : Type 0 where
+  answers : (text : List ℕ) → IsRead (command_of words) text input → FindsFor (command_of words) text o r → CommandAnswer words text r w → Makes words input o r w
+  cannot_read : (c : Command) → command_of words ≡ Ok c → Rose input.faults_before input.faults_after → IsLeftAlone o → w ≡ unread → Makes words input o r w
+  lacks_memory : LacksMemory words input o → w ≡ without_memory → Makes words input o r w
 
 -- an output grew by just these bytes, and no write to it failed
 pub record Gains (o : Output) (bytes : List ℕ) : Type 0 where
@@ -83,11 +101,20 @@ pub data Delivers (w : Response) (out err : Output) (s : Status) : Type 0 where
   out_failed : Stops out w.out → Tries err (line write_line) → s ≡ status.Write → Delivers w out err s
   err_failed : Gains out w.out → Stops err w.err → s ≡ status.Write → Delivers w out err s
 
--- a run of the command
-pub record Runs (words : List Word) (input : Input) (out err : Output) (s : Status) : Type 0 where
+-- no read and no write failed
+pub record Works (input : Input) (out err : Output) : Type 0 where
+  pub reads : ¬ Rose input.faults_before input.faults_after
+  pub writes : ¬ Rose out.faults_before out.faults_after
+  pub tells : ¬ Rose err.faults_before err.faults_after
+
+-- a run of the command; on an input that it answers over what it found it succeeds where its streams work, unless memory is wanting
+pub record Runs (words : List Word) (input : Input) (o : Outside) (out err : Output) (s : Status) : Type 0 where
+  pub found : Record
   pub written : Response
-  pub makes : Makes words input written
+  pub makes : Makes words input o found written
   pub delivers : Delivers written out err s
+  pub completes : (c : Command) (text : List ℕ) → command_of words ≡ Ok c → input.before ≡ Some text → Succeeds c.verb text found → Works input out err
+      → (s ≡ status.Ok) ⊎ (s ≡ status.Memory)
 
 -- the words are no command line
 abbrev pub AreMisused : List Word → Type 0
@@ -99,8 +126,6 @@ pub record ReadFailed (input : Input) (out err : Output) : Type 0 where
   pub nothing_out : Gains out []
   pub told : Gains err (line read_line)
 
--- no read and no write failed
-pub record Works (input : Input) (out err : Output) : Type 0 where
-  pub reads : ¬ Rose input.faults_before input.faults_after
-  pub writes : ¬ Rose out.faults_before out.faults_after
-  pub tells : ¬ Rose err.faults_before err.faults_after
+-- a call of a desk failed, or a count stands at its last value
+abbrev pub DeskFailed : Outside → Type 0
+DeskFailed o = Any AtLast o.faults_after ⊎ (total o.faults_before < total o.faults_after)

@@ -7,6 +7,7 @@ ghost use Rattle.dh_syntax.specs.Expressions.Bridge.{term};
 ghost use Rattle.dh_syntax.specs.Expressions.Nesting.{nesting};
 ghost use Rattle.dh_syntax.specs.Limits.{most_bytes};
 ghost use Rattle.dh_syntax.specs.declared.verbs.Verb.TheVariants as verbs;
+ghost use Rattle.dh_top.specs.Outside.{nothing_found};
 ghost use Rattle.dh_top.specs.Replies.{written};
 
 use crate::replies::{Reply, misspelling};
@@ -37,7 +38,7 @@ fn misreading(alloc: Global, fault: DecodeFault) -> Result<Reply, AllocError>
 /// The reply of `decode` to no more bytes than a text may have.
 fn reading(alloc: Global, bytes: &[u8]) -> Result<Reply, AllocError>
     requires { length bytes.now ≤ most_bytes }
-    ensures { IfOk result (λ r. Does verbs.Decode bytes.now (written r)) }
+    ensures { IfOk result (λ r. Does verbs.Decode bytes.now nothing_found (written r)) }
 {
     match decode(alloc, bytes) {
         Ok(e) => printed_reply(alloc, &e),
@@ -50,7 +51,7 @@ fn reading(alloc: Global, bytes: &[u8]) -> Result<Reply, AllocError>
 
 /// The reply of `decode` to bytes. More than a text may have are not read.
 pub(crate) fn decoding(alloc: Global, bytes: &[u8]) -> Result<Reply, AllocError>
-    ensures { IfOk result (λ r. Does verbs.Decode bytes.now (written r)) }
+    ensures { IfOk result (λ r. Does verbs.Decode bytes.now nothing_found (written r)) }
 {
     if bytes.len() > MOST_BYTES {
         return misspelling(alloc, ParseFault::TooLarge);

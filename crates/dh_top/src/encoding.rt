@@ -6,6 +6,7 @@ ghost use Rattle.dh_syntax.specs.Expressions.Arity.{IsWellFormed};
 ghost use Rattle.dh_syntax.specs.Expressions.Bridge.{term};
 ghost use Rattle.dh_syntax.specs.Expressions.Nesting.{nesting};
 ghost use Rattle.dh_syntax.specs.declared.verbs.Verb.TheVariants as verbs;
+ghost use Rattle.dh_top.specs.Outside.{nothing_found};
 ghost use Rattle.dh_top.specs.Replies.{written};
 
 use crate::replies::{Reply, misspelling};
@@ -26,7 +27,7 @@ fn encoded_reply(alloc: Global, e: &Expr) -> Result<Reply, AllocError>
 
 /// The reply of `encode` to a text.
 pub(crate) fn encoding(alloc: Global, text: &[u8]) -> Result<Reply, AllocError>
-    ensures { IfOk result (λ r. Does verbs.Encode text.now (written r)) }
+    ensures { IfOk result (λ r. Does verbs.Encode text.now nothing_found (written r)) }
 {
     match parse(alloc, text) {
         Ok(e) => encoded_reply(alloc, &e),

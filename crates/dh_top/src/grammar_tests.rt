@@ -5,16 +5,18 @@ use crate::tests::{NONE, expect, run_in_memory};
 use dh_syntax::Status;
 use std::alloc::{AllocError, Global};
 use std::process::Abort;
+use std::sync::Wait;
 use std::test::Fail;
+use std::thread::Threads;
 
 /// Each text is encoded so.
 fn expect_forms(
-    rt: &(impl Abort + Eprint),
+    rt: &(impl Abort + Eprint + Threads + Wait + Sync),
     alloc: Global,
     table: &[(&str, &[u8])],
 ) -> Result<(), AllocError> {
     for (text, form) in table {
-        let ran = run_in_memory(alloc, &["encode"], text.as_bytes(), NONE)?;
+        let ran = run_in_memory(rt, alloc, &["encode"], text.as_bytes(), NONE)?;
         expect(rt, &ran, form, "", Status::Ok);
     }
     Ok(())
@@ -293,7 +295,7 @@ fn encodes_imports(rt: HostRuntime) -> Result<(), Fail> {
     for (location, head, written) in locations {
         for (tail, digest, mode) in tails {
             let text = format!(in alloc; "{location}{tail}")?;
-            let ran = run_in_memory(alloc, &["encode"], text.as_bytes(), NONE)?;
+            let ran = run_in_memory(&rt, alloc, &["encode"], text.as_bytes(), NONE)?;
             let form = import_form(alloc, head, digest, mode, written)?;
             expect(&rt, &ran, form.as_slice(), "", Status::Ok);
         }
@@ -338,7 +340,7 @@ fn encodes_an_ordinary_text(rt: HostRuntime) -> Result<(), Fail> {
         let mut form = Vec::from_slice(alloc, front)?;
         form.extend_from_slice(head)?;
         form.extend_from_slice(persons.as_slice())?;
-        let ran = run_in_memory(alloc, &["encode"], text.as_bytes(), NONE)?;
+        let ran = run_in_memory(&rt, alloc, &["encode"], text.as_bytes(), NONE)?;
         expect(&rt, &ran, form.as_slice(), "", Status::Ok);
     }
     Ok(())
@@ -360,7 +362,7 @@ fn refuses_texts_that_nest_too_deep(rt: HostRuntime) -> Result<(), Fail> {
         for _ in 0..open {
             text.push_str(")")?;
         }
-        let ran = run_in_memory(alloc, &["encode"], text.as_bytes(), NONE)?;
+        let ran = run_in_memory(&rt, alloc, &["encode"], text.as_bytes(), NONE)?;
         expect(&rt, &ran, out, err, status);
     }
     Ok(())

@@ -1,20 +1,25 @@
 //! The command: its words, its input, its answer and how that is written.
 //!
-//! `run_dhall` is the one call of the program. It reads the words, then the input, then makes the answer, and only then
-//! writes: so a refusal of an earlier step comes before one of a later step. Each step is a module with one exact clause.
+//! `run_dhall` is the one call of the program. It reads the words, then the input, resolves imports by desks, makes the answer,
+//! keeps new entries of the cache, and only then writes: so a refusal of an earlier step comes before one of a later step. Each step is a module with one exact clause.
 //!
 //! ```text
-//! let status = run_dhall(alloc, &words, &mut input, &mut out, &mut err);
+//! let status = run_dhall(rt, alloc, &words, &mut desks, &mut input, &mut out, &mut err, &OpenGate);
 //! ```
 #![tactic(auto)]
 
+mod blames;
 mod decoding;
 mod delivery;
 mod encoding;
-mod imports;
+mod faults;
+mod freezing;
 mod inputs;
+mod keeping;
 mod replies;
+mod resolving;
 mod runs;
+mod telling;
 mod typing;
 mod words;
 
@@ -24,6 +29,8 @@ pub use words::read_words;
 
 #[cfg(test)]
 mod grammar_tests;
+#[cfg(test)]
+mod import_tests;
 #[cfg(test)]
 mod normal_tests;
 #[cfg(test)]

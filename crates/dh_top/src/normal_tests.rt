@@ -4,11 +4,17 @@ use crate::tests::{NONE, expect, run_in_memory};
 use dh_syntax::Status;
 use std::alloc::Global;
 use std::process::Abort;
+use std::sync::Wait;
 use std::test::Fail;
+use std::thread::Threads;
 
-fn prints(rt: &(impl Abort + Eprint), alloc: Global, table: &[(&str, &str)]) -> Result<(), Fail> {
+fn prints(
+    rt: &(impl Abort + Eprint + Threads + Wait + Sync),
+    alloc: Global,
+    table: &[(&str, &str)],
+) -> Result<(), Fail> {
     for (text, line) in table {
-        let ran = run_in_memory(alloc, &["normalize"], text.as_bytes(), NONE)?;
+        let ran = run_in_memory(rt, alloc, &["normalize"], text.as_bytes(), NONE)?;
         expect(rt, &ran, line.as_bytes(), "", Status::Ok);
     }
     Ok(())
@@ -16,7 +22,7 @@ fn prints(rt: &(impl Abort + Eprint), alloc: Global, table: &[(&str, &str)]) -> 
 
 /// The same of each text and line below the same binders.
 fn prints_below(
-    rt: &(impl Abort + Eprint),
+    rt: &(impl Abort + Eprint + Threads + Wait + Sync),
     alloc: Global,
     binders: (&str, &str),
     table: &[(&str, &str)],
@@ -26,20 +32,20 @@ fn prints_below(
         input.push_str(text)?;
         let mut output = String::from_str(alloc, binders.1)?;
         output.push_str(line)?;
-        let ran = run_in_memory(alloc, &["normalize"], input.as_bytes(), NONE)?;
+        let ran = run_in_memory(rt, alloc, &["normalize"], input.as_bytes(), NONE)?;
         expect(rt, &ran, output.as_bytes(), "", Status::Ok);
     }
     Ok(())
 }
 
 fn ends(
-    rt: &(impl Abort + Eprint),
+    rt: &(impl Abort + Eprint + Threads + Wait + Sync),
     alloc: Global,
     table: &[(&str, &str)],
     status: Status,
 ) -> Result<(), Fail> {
     for (text, line) in table {
-        let ran = run_in_memory(alloc, &["normalize"], text.as_bytes(), NONE)?;
+        let ran = run_in_memory(rt, alloc, &["normalize"], text.as_bytes(), NONE)?;
         expect(rt, &ran, &[], line, status);
     }
     Ok(())
@@ -282,19 +288,5 @@ fn names_limits(rt: HostRuntime) -> Result<(), Fail> {
             ),
         ],
         Status::Limit,
-    )
-}
-
-#[test]
-fn leaves_imports_out(rt: HostRuntime) -> Result<(), Fail> {
-    ends(
-        &rt,
-        rt.alloc(),
-        &[
-            ("[ ./a ]", "left out of this profile at 0\n"),
-            ("1 ? 2", "left out of this profile at 0\n"),
-            ("1 +", "syntax at 3\n"),
-        ],
-        Status::Text,
     )
 }

@@ -1,18 +1,22 @@
 //! What a run replies to its words and its input.
 
-ghost use Rattle.std.specs.Prelude.{◌≡◌, [], IfOk, map, string_bytes};
-ghost use Rattle.dh_syntax.specs.Command.Answer.{Does, misused, unread, answer, misspelt};
-ghost use Rattle.dh_top.specs.Replies.{written, Performs};
-ghost use Rattle.dh_top.specs.Runs.{Makes, reading};
+ghost use Rattle.std.specs.Prelude.{◌≡◌, ◌<◌, [], IfOk, OnErr, map, string_bytes, vec_len};
+ghost use Rattle.dh_syntax.specs.Command.Answer.{misused, unread, answer as answer_of, misspelt};
+ghost use Rattle.dh_top.specs.Outside.{outside, FilesPart};
+ghost use Rattle.dh_top.specs.Replies.{written, Answers, IsMade, Lacks, Performs};
+ghost use Rattle.dh_top.specs.Runs.{LacksMemory, reading};
 
 use crate::decoding::decoding;
 use crate::encoding::encoding;
 use crate::inputs::{InputFault, read_input};
-use crate::typing::typing;
+use crate::resolving::resolving;
+use crate::telling::{help, version};
 use crate::words::read_words;
-use dh_ports::Feed;
+use dh_ports::{Desk, Feed, Gate, World};
 use dh_syntax::{Command, ParseFault, Status, Verb};
 use std::alloc::{AllocError, Global};
+use std::sync::Wait;
+use std::thread::Threads;
 
 /// What is written to the two outputs, and the status.
 #[derive(Debug, Drop)]
@@ -25,7 +29,7 @@ pub(crate) struct Reply {
 impl Reply {
     /// The reply that has these bytes for standard output.
     pub(crate) fn answer(alloc: Global, out: Vec<u8>) -> Reply
-        ensures { written result ≡ answer out.items }
+        ensures { written result ≡ answer_of out.items }
     {
         Reply {
             out,
@@ -71,39 +75,95 @@ fn unreadable(alloc: Global) -> Result<Reply, AllocError>
 }
 
 /// The reply of a command to what was read of its input.
-fn answer(alloc: Global, verb: Verb, input: &[u8]) -> Result<Reply, AllocError>
-    ensures { IfOk result (λ r. Does verb input.now (written r)) }
+fn answer<
+    R: Threads + Wait + Sync,
+    W: World + Send + Sync,
+    D: Desk<W> + Send + Drop,
+    G: Gate + Sync,
+>(
+    rt: &R,
+    alloc: Global,
+    command: Command,
+    input: &[u8],
+    desks: &mut Vec<D>,
+    gate: &G,
+) -> Result<Reply, AllocError>
+    requires some { 0 < vec_len desks.old }
+    ensures count { vec_len desks.new ≡ vec_len desks.old }
+    ensures answers { IfOk result (λ w. Answers command.verb input.now (outside W.told W.shelved (λ d. D.faults d) (λ d. D.filed d) desks.old.items desks.new.items) (written w)) }
+    ensures lacks { OnErr result (FilesPart command.verb input.now (outside W.told W.shelved (λ d. D.faults d) (λ d. D.filed d) desks.old.items desks.new.items)) }
 {
-    match verb {
+    match command.verb {
         Verb::Encode => encoding(alloc, input),
         Verb::Decode => decoding(alloc, input),
-        Verb::Type | Verb::Normalize | Verb::Hash => typing(alloc, verb, input),
+        Verb::Resolve | Verb::Type | Verb::Normalize | Verb::Hash | Verb::Freeze => {
+            resolving::<R, W, D, G>(rt, alloc, command, input, desks, gate)
+        }
+        Verb::Help => help(alloc),
+        Verb::Version => version(alloc),
     }
 }
 
-/// Reads the input of a command, and replies to it.
-fn perform<I: Feed>(alloc: Global, command: Command, input: &mut I) -> Result<Reply, AllocError>
-    ensures { IfOk result (λ r. Performs command
-        (reading (I.left input.old) (I.left input.new) (I.faults input.old) (I.faults input.new)) (written r)) }
+/// Reads the input of a command that reads one, and replies to it.
+fn perform<
+    R: Threads + Wait + Sync,
+    W: World + Send + Sync,
+    D: Desk<W> + Send + Drop,
+    I: Feed,
+    G: Gate + Sync,
+>(
+    rt: &R,
+    alloc: Global,
+    command: Command,
+    desks: &mut Vec<D>,
+    input: &mut I,
+    gate: &G,
+) -> Result<Reply, AllocError>
+    requires some { 0 < vec_len desks.old }
+    ensures count { vec_len desks.new ≡ vec_len desks.old }
+    ensures performs { IfOk result (λ w. Performs command
+        (reading (I.left input.old) (I.left input.new) (I.faults input.old) (I.faults input.new))
+        (outside W.told W.shelved (λ d. D.faults d) (λ d. D.filed d) desks.old.items desks.new.items) (written w)) }
+    ensures lacks { OnErr result (Lacks command
+        (reading (I.left input.old) (I.left input.new) (I.faults input.old) (I.faults input.new))
+        (outside W.told W.shelved (λ d. D.faults d) (λ d. D.filed d) desks.old.items desks.new.items)) }
 {
+    if !command.verb.reads() {
+        return answer::<R, W, D, G>(rt, alloc, command, &[], desks, gate);
+    }
     match read_input(alloc, input) {
-        Ok(bytes) => answer(alloc, command.verb, &bytes),
+        Ok(bytes) => answer::<R, W, D, G>(rt, alloc, command, &bytes, desks, gate),
         Err(InputFault::Failed) => unreadable(alloc),
         Err(InputFault::Memory) => Err(AllocError),
     }
 }
 
-/// The reply to the words of the command line, with the input that they ask for.
-pub(crate) fn reply_to<I: Feed>(
+/// The reply to the words of the command line, with the input and the desks that they ask for.
+pub(crate) fn reply_to<
+    R: Threads + Wait + Sync,
+    W: World + Send + Sync,
+    D: Desk<W> + Send + Drop,
+    I: Feed,
+    G: Gate + Sync,
+>(
+    rt: &R,
     alloc: Global,
     words: &[String],
+    desks: &mut Vec<D>,
     input: &mut I,
+    gate: &G,
 ) -> Result<Reply, AllocError>
-    ensures { IfOk result (λ r. Makes (map string_bytes words.now)
-        (reading (I.left input.old) (I.left input.new) (I.faults input.old) (I.faults input.new)) (written r)) }
+    requires some { 0 < vec_len desks.old }
+    ensures count { vec_len desks.new ≡ vec_len desks.old }
+    ensures made { IfOk result (λ w. IsMade (map string_bytes words.now)
+        (reading (I.left input.old) (I.left input.new) (I.faults input.old) (I.faults input.new))
+        (outside W.told W.shelved (λ d. D.faults d) (λ d. D.filed d) desks.old.items desks.new.items) (written w)) }
+    ensures lacks { OnErr result (LacksMemory (map string_bytes words.now)
+        (reading (I.left input.old) (I.left input.new) (I.faults input.old) (I.faults input.new))
+        (outside W.told W.shelved (λ d. D.faults d) (λ d. D.filed d) desks.old.items desks.new.items)) }
 {
     match read_words(words) {
-        Ok(command) => perform(alloc, command, input),
+        Ok(command) => perform::<R, W, D, I, G>(rt, alloc, command, desks, input, gate),
         Err(k) => misuse(alloc, k),
     }
 }

@@ -1,30 +1,46 @@
 //! One run of the command: its words, its input, its answer, and the delivery of it.
 
-ghost use Rattle.std.specs.Prelude.{◌≡◌, ◌<◌, ◌⊎◌, Ok, map, string_bytes, IfSome};
+ghost use Rattle.std.specs.Prelude.{◌≡◌, ◌<◌, ◌⊎◌, map, string_bytes, vec_len};
 ghost use Rattle.dh_ports.specs.Counts.{Rose};
-ghost use Rattle.dh_syntax.specs.Command.Answer.{Succeeds};
-ghost use Rattle.dh_syntax.specs.Command.Words.{command_of};
-ghost use Rattle.dh_syntax.specs.declared.commands.Command.{Command};
-ghost use Rattle.dh_top.specs.Runs.{Runs, AreMisused, ReadFailed, Works, reading, output};
+ghost use Rattle.dh_top.specs.Outside.{outside};
+ghost use Rattle.dh_top.specs.Runs.{Runs, AreMisused, DeskFailed, ReadFailed, reading, output};
 
 use crate::delivery::deliver;
 use crate::replies::reply_to;
-use dh_ports::{Feed, Sink};
+use dh_ports::{Desk, Feed, Gate, Sink, World};
 use dh_syntax::Status;
 use std::alloc::Global;
+use std::sync::Wait;
+use std::thread::Threads;
 
-/// Runs the command: reads its words and its input, and writes its answer. Nothing is written to standard output
-/// unless the answer is whole. Want of memory may come at any point; then `out of memory` stands on standard error.
-pub fn run_dhall<I: Feed, O: Sink, E: Sink>(
+/// Runs the command: reads its words and its input, resolves imports by the desks with as many workers as the words ask for (or one
+/// for each desk where there are fewer), keeps new entries of the cache at the first desk, and writes its answer. Nothing is written to
+/// standard output unless the answer is whole. Want of memory may come at any point; then `out of memory` stands on standard error.
+pub fn run_dhall<
+    R: Threads + Wait + Sync,
+    W: World + Send + Sync,
+    D: Desk<W> + Send + Drop,
+    I: Feed,
+    O: Sink,
+    E: Sink,
+    G: Gate + Sync,
+>(
+    rt: &R,
     alloc: Global,
     words: &[String],
+    desks: &mut Vec<D>,
     input: &mut I,
     out: &mut O,
     err: &mut E,
+    gate: &G,
 ) -> Status
-    // What is written, and the status, are those of the answer, or of a fault that came before it.
+    requires some { 0 < vec_len desks.old }
+
+    // What is written, and the status, are those of the answer over what the run found by its desks, or of a fault that came before
+    // it; and an input that the command answers over that succeeds where the streams work, unless memory is wanting.
     ensures runs { Runs (map string_bytes words.now)
         (reading (I.left input.old) (I.left input.new) (I.faults input.old) (I.faults input.new))
+        (outside W.told W.shelved (λ d. D.faults d) (λ d. D.filed d) desks.old.items desks.new.items)
         (output (O.written out.old) (O.written out.new) (O.faults out.old) (O.faults out.new))
         (output (E.written err.old) (E.written err.new) (E.faults err.old) (E.faults err.new)) result }
 
@@ -33,26 +49,20 @@ pub fn run_dhall<I: Feed, O: Sink, E: Sink>(
     ensures usage_only { result ≡ Status.Usage → AreMisused (map string_bytes words.now) }
     ensures usage { AreMisused (map string_bytes words.now) → (result ≡ Status.Usage) ⊎ (result ≡ Status.Write) ⊎ (result ≡ Status.Memory) }
 
-    // The two faults of devices come only where that device's count of faults rose.
+    // The faults of devices come only where that device's count of faults rose.
     ensures read_only { result ≡ Status.Read → ReadFailed
         (reading (I.left input.old) (I.left input.new) (I.faults input.old) (I.faults input.new))
         (output (O.written out.old) (O.written out.new) (O.faults out.old) (O.faults out.new))
         (output (E.written err.old) (E.written err.new) (E.faults err.old) (E.faults err.new)) }
     ensures write_only { result ≡ Status.Write → Rose (O.faults out.old) (O.faults out.new) ⊎ Rose (E.faults err.old) (E.faults err.new) }
+    ensures desk_only { result ≡ Status.Desk → DeskFailed (outside W.told W.shelved (λ d. D.faults d) (λ d. D.filed d) desks.old.items desks.new.items) }
 
     // A failed call of a device that is counted is told: of a write by `Write`, of a read by `Read` unless that line
     // cannot be written or memory is wanting.
     ensures write { (O.faults out.old < O.faults out.new) ⊎ (E.faults err.old < E.faults err.new) → result ≡ Status.Write }
     ensures read { I.faults input.old < I.faults input.new → (result ≡ Status.Read) ⊎ (result ≡ Status.Write) ⊎ (result ≡ Status.Memory) }
-
-    // A command on an input that it answers succeeds where no device fails, unless memory is wanting.
-    ensures completes { IfSome (I.left input.old) (λ text. (c : Command) → command_of (map string_bytes words.now) ≡ Ok c → Succeeds c.verb text
-        → Works (reading (I.left input.old) (I.left input.new) (I.faults input.old) (I.faults input.new))
-        (output (O.written out.old) (O.written out.new) (O.faults out.old) (O.faults out.new))
-        (output (E.written err.old) (E.written err.new) (E.faults err.old) (E.faults err.new))
-        → (result ≡ Status.Ok) ⊎ (result ≡ Status.Memory)) }
 {
-    match reply_to(alloc, words, input) {
+    match reply_to::<R, W, D, I, G>(rt, alloc, words, desks, input, gate) {
         Ok(reply) => deliver(&reply.out, &reply.err, reply.status, out, err),
         Err(_) => deliver(&[], b"out of memory\n", Status::Memory, out, err),
     }

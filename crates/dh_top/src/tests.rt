@@ -1,18 +1,20 @@
 //! Whole runs in memory.
 
 use super::*;
-use dh_ports::{MemFeed, MemSink};
+use dh_ports::{DeskFails, Gate, MemDesk, MemFeed, MemSink, OpenGate, Silent, are_short};
 use dh_syntax::{Bytes, Many, Status};
 use std::alloc::{AllocError, Global};
 use std::process::Abort;
+use std::sync::Wait;
 use std::test::Fail;
+use std::thread::Threads;
 
 /// What one run wrote, and its status.
 #[derive(Drop)]
 pub(crate) struct Ran {
-    out: Vec<u8>,
-    err: Vec<u8>,
-    status: Status,
+    pub out: Vec<u8>,
+    pub err: Vec<u8>,
+    pub status: Status,
 }
 
 /// The numbers of the calls that fail, on each of the three streams.
@@ -37,23 +39,60 @@ fn words_of(alloc: Global, words: &[&str]) -> Result<Vec<String>, AllocError> {
     Ok(all)
 }
 
-pub(crate) fn run_in_memory(
+/// Runs a command over these desks and this gate, with streams in memory.
+pub(crate) fn run_over<R: Threads + Wait + Sync, G: Gate + Sync>(
+    rt: &R,
     alloc: Global,
     words: &[&str],
     input: &[u8],
     failing: Failing,
+    desks: &mut Vec<MemDesk>,
+    gate: &G,
 ) -> Result<Ran, AllocError> {
+    if desks.is_empty() {
+        return Err(AllocError);
+    }
     let words = words_of(alloc, words)?;
     let bytes = Bytes::of(Vec::from_slice(alloc, input)?);
     let mut feed = MemFeed::new(alloc, bytes, Many::of(vec![in alloc; failing.read]?));
     let mut out = MemSink::new(alloc, Many::of(vec![in alloc; failing.out]?));
     let mut err = MemSink::new(alloc, Many::of(vec![in alloc; failing.err]?));
-    let status = run_dhall(alloc, words.as_slice(), &mut feed, &mut out, &mut err);
+    let status = run_dhall::<R, Silent, MemDesk, MemFeed, MemSink, MemSink, G>(
+        rt,
+        alloc,
+        words.as_slice(),
+        desks,
+        &mut feed,
+        &mut out,
+        &mut err,
+        gate,
+    );
     Ok(Ran {
         out: Vec::from_slice(alloc, out.written_bytes())?,
         err: Vec::from_slice(alloc, err.written_bytes())?,
         status,
     })
+}
+
+/// Runs a command where nothing is outside.
+pub(crate) fn run_in_memory<R: Threads + Wait + Sync>(
+    rt: &R,
+    alloc: Global,
+    words: &[&str],
+    input: &[u8],
+    failing: Failing,
+) -> Result<Ran, AllocError> {
+    let fails = DeskFails {
+        fetch: Many::new(alloc),
+        look: Many::new(alloc),
+        keep: Many::new(alloc),
+    };
+    let contents = Many::new(alloc);
+    if !are_short(&contents) {
+        return Err(AllocError);
+    }
+    let mut desks = vec![in alloc; MemDesk::new(alloc, contents, Many::new(alloc), fails)]?;
+    run_over(rt, alloc, words, input, failing, &mut desks, &OpenGate)
 }
 
 pub(crate) fn expect(rt: &(impl Abort + Eprint), ran: &Ran, out: &[u8], err: &str, status: Status) {
@@ -121,7 +160,7 @@ fn encodes_expressions(rt: HostRuntime) -> Result<(), Fail> {
         ),
     ];
     for (text, bytes) in table {
-        let ran = run_in_memory(rt.alloc(), &["encode"], text.as_bytes(), NONE)?;
+        let ran = run_in_memory(&rt, rt.alloc(), &["encode"], text.as_bytes(), NONE)?;
         expect(&rt, &ran, bytes, "", Status::Ok);
     }
     Ok(())
@@ -150,7 +189,7 @@ fn refuses_texts(rt: HostRuntime) -> Result<(), Fail> {
         ("[]", "syntax at 2\n"),
     ];
     for (text, line) in table {
-        let ran = run_in_memory(rt.alloc(), &["encode"], text.as_bytes(), NONE)?;
+        let ran = run_in_memory(&rt, rt.alloc(), &["encode"], text.as_bytes(), NONE)?;
         expect(&rt, &ran, &[], line, Status::Text);
     }
     Ok(())
@@ -171,7 +210,7 @@ fn decodes_expressions(rt: HostRuntime) -> Result<(), Fail> {
         (&[0xF4], "False\n"),
     ];
     for (bytes, text) in table {
-        let ran = run_in_memory(rt.alloc(), &["decode"], bytes, NONE)?;
+        let ran = run_in_memory(&rt, rt.alloc(), &["decode"], bytes, NONE)?;
         expect(&rt, &ran, text.as_bytes(), "", Status::Ok);
     }
     Ok(())
@@ -181,7 +220,7 @@ fn decodes_expressions(rt: HostRuntime) -> Result<(), Fail> {
 fn refuses_bytes(rt: HostRuntime) -> Result<(), Fail> {
     for len in 0..SUM.len() {
         let line = format!(in rt.alloc(); "cut at {len}\n")?;
-        let ran = run_in_memory(rt.alloc(), &["decode"], &SUM[..len], NONE)?;
+        let ran = run_in_memory(&rt, rt.alloc(), &["decode"], &SUM[..len], NONE)?;
         expect(&rt, &ran, &[], line.as_str(), Status::Text);
     }
     let table: [(&[u8], &str); 5] = [
@@ -198,7 +237,7 @@ fn refuses_bytes(rt: HostRuntime) -> Result<(), Fail> {
         ),
     ];
     for (bytes, line) in table {
-        let ran = run_in_memory(rt.alloc(), &["decode"], bytes, NONE)?;
+        let ran = run_in_memory(&rt, rt.alloc(), &["decode"], bytes, NONE)?;
         expect(&rt, &ran, &[], line, Status::Text);
     }
     let mut deep = Vec::new(rt.alloc());
@@ -206,20 +245,48 @@ fn refuses_bytes(rt: HostRuntime) -> Result<(), Fail> {
         deep.extend_from_slice(&[0x82, 0x13])?;
     }
     deep.push(0xF5)?;
-    let ran = run_in_memory(rt.alloc(), &["decode"], deep.as_slice(), NONE)?;
+    let ran = run_in_memory(&rt, rt.alloc(), &["decode"], deep.as_slice(), NONE)?;
     expect(&rt, &ran, &[], "nested deeper than 500\n", Status::Text);
     let large = vec![in rt.alloc(); 0xF5u8; 1_048_577]?;
-    let ran = run_in_memory(rt.alloc(), &["decode"], large.as_slice(), NONE)?;
+    let ran = run_in_memory(&rt, rt.alloc(), &["decode"], large.as_slice(), NONE)?;
     expect(&rt, &ran, &[], "larger than 1048576 bytes\n", Status::Text);
     Ok(())
 }
 
 #[test]
+fn tells_of_itself(rt: HostRuntime) -> Result<(), Fail> {
+    let alloc = rt.alloc();
+    let failing = Failing {
+        read: 1,
+        out: 0,
+        err: 0,
+    };
+    // The input is left alone, so no read of it fails.
+    let page = run_in_memory(&rt, alloc, &["--help"], b"", failing)?;
+    assert_eq!(rt; page.status, Status::Ok);
+    let Ok(text) = str::from_utf8(page.out.as_slice()) else {
+        return Err(Fail::from("no text"));
+    };
+    assert!(rt; text.starts_with("dhall COMMAND [--workers N]"));
+    assert!(rt; text.ends_with("status 9: memory was wanting\n"));
+    for words in [&["help"], &["-h"]] {
+        let ran = run_in_memory(&rt, alloc, words, b"", failing)?;
+        expect(&rt, &ran, page.out.as_slice(), "", Status::Ok);
+    }
+    let version = run_in_memory(&rt, alloc, &["--version"], b"", failing)?;
+    let line = b"dhall 0.1.0, standard 23\n";
+    expect(&rt, &version, line, "", Status::Ok);
+    Ok(())
+}
+
+#[test]
 fn refuses_words(rt: HostRuntime) -> Result<(), Fail> {
-    let table: [(&[&str], &str); 9] = [
+    let table: [(&[&str], &str); 11] = [
         (&[], "usage: word 1\n"),
         (&["Encode"], "usage: word 1\n"),
         (&["encode", "x"], "usage: word 2\n"),
+        (&["--help", "x"], "usage: word 2\n"),
+        (&["version"], "usage: word 1\n"),
         (&["decode", "--workers"], "usage: word 3\n"),
         (&["encode", "--workers", "0"], "usage: word 3\n"),
         (&["encode", "--workers", "65"], "usage: word 3\n"),
@@ -228,10 +295,16 @@ fn refuses_words(rt: HostRuntime) -> Result<(), Fail> {
         (&["decode", "--workers", "4", "x"], "usage: word 4\n"),
     ];
     for (words, line) in table {
-        let ran = run_in_memory(rt.alloc(), words, b"1", NONE)?;
+        let ran = run_in_memory(&rt, rt.alloc(), words, b"1", NONE)?;
         expect(&rt, &ran, &[], line, Status::Usage);
     }
-    let many = run_in_memory(rt.alloc(), &["decode", "--workers", "64"], &[0xF5], NONE)?;
+    let many = run_in_memory(
+        &rt,
+        rt.alloc(),
+        &["decode", "--workers", "64"],
+        &[0xF5],
+        NONE,
+    )?;
     expect(&rt, &many, b"True\n", "", Status::Ok);
     Ok(())
 }
@@ -243,21 +316,21 @@ fn tells_failed_devices(rt: HostRuntime) -> Result<(), Fail> {
         out: 0,
         err: 0,
     };
-    let ran_read = run_in_memory(rt.alloc(), &["encode"], b"1", read)?;
+    let ran_read = run_in_memory(&rt, rt.alloc(), &["encode"], b"1", read)?;
     expect(&rt, &ran_read, &[], "read failed\n", Status::Read);
     let out = Failing {
         read: 0,
         out: 1,
         err: 0,
     };
-    let ran_out = run_in_memory(rt.alloc(), &["encode"], b"True", out)?;
+    let ran_out = run_in_memory(&rt, rt.alloc(), &["encode"], b"True", out)?;
     expect(&rt, &ran_out, &[], "write failed\n", Status::Write);
     let err = Failing {
         read: 0,
         out: 0,
         err: 1,
     };
-    let ran_err = run_in_memory(rt.alloc(), &["encode"], b"(", err)?;
+    let ran_err = run_in_memory(&rt, rt.alloc(), &["encode"], b"(", err)?;
     expect(&rt, &ran_err, &[], "", Status::Write);
     Ok(())
 }
@@ -266,10 +339,10 @@ fn tells_failed_devices(rt: HostRuntime) -> Result<(), Fail> {
 fn reads_to_the_limit(rt: HostRuntime) -> Result<(), Fail> {
     let mut text = vec![in rt.alloc(); b' '; 1_048_575]?;
     text.push(b'1')?;
-    let longest = run_in_memory(rt.alloc(), &["encode"], text.as_slice(), NONE)?;
+    let longest = run_in_memory(&rt, rt.alloc(), &["encode"], text.as_slice(), NONE)?;
     expect(&rt, &longest, &[0x82, 15, 1], "", Status::Ok);
     text.push(b' ')?;
-    let longer = run_in_memory(rt.alloc(), &["encode"], text.as_slice(), NONE)?;
+    let longer = run_in_memory(&rt, rt.alloc(), &["encode"], text.as_slice(), NONE)?;
     expect(
         &rt,
         &longer,

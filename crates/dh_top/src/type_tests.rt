@@ -4,12 +4,14 @@ use crate::tests::{NONE, expect, run_in_memory};
 use dh_syntax::Status;
 use std::alloc::{AllocError, Global};
 use std::process::Abort;
+use std::sync::Wait;
 use std::test::Fail;
+use std::thread::Threads;
 
 /// Runs a command on the text before `~>` in each line of a table: what stands behind is the line that it writes, to standard
 /// output where the status is `Ok` and else to standard error.
 fn runs(
-    rt: &(impl Abort + Eprint),
+    rt: &(impl Abort + Eprint + Threads + Wait + Sync),
     alloc: Global,
     verb: &str,
     status: Status,
@@ -21,7 +23,7 @@ fn runs(
         };
         let mut line = String::from_str(alloc, answer)?;
         line.push_str("\n")?;
-        let ran = run_in_memory(alloc, &[verb], text.as_bytes(), NONE)?;
+        let ran = run_in_memory(rt, alloc, &[verb], text.as_bytes(), NONE)?;
         match status {
             Status::Ok => expect(rt, &ran, line.as_bytes(), "", status),
             _ => expect(rt, &ran, &[], line.as_str(), status),
@@ -119,6 +121,7 @@ let x = True in let y = 1 in y + x ~> type rule 14 at 1/1, line 1, column 30"#,
     )?;
     let alloc = rt.alloc();
     let ran = run_in_memory(
+        &rt,
         alloc,
         &["type"],
         b"let a = \"\xc3\xa9\"\nin  a && True",
@@ -131,7 +134,7 @@ let x = True in let y = 1 in y + x ~> type rule 14 at 1/1, line 1, column 30"#,
         "type rule 13 at 1, line 2, column 5\n",
         Status::Ill,
     );
-    let ran = run_in_memory(alloc, &["hash"], b"[ \"\xc3\xa9\", x ]", NONE)?;
+    let ran = run_in_memory(&rt, alloc, &["hash"], b"[ \"\xc3\xa9\", x ]", NONE)?;
     expect(
         &rt,
         &ran,
@@ -285,7 +288,7 @@ fn types_an_ordinary_text(rt: HostRuntime) -> Result<(), Fail> {
             ("normalize", line.as_str()),
             ("hash", *digest),
         ] {
-            let ran = run_in_memory(alloc, &[verb], text.as_bytes(), NONE)?;
+            let ran = run_in_memory(&rt, alloc, &[verb], text.as_bytes(), NONE)?;
             expect(&rt, &ran, answer.as_bytes(), "", Status::Ok);
         }
     }

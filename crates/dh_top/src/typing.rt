@@ -1,14 +1,16 @@
-//! The commands that infer a type: from a text to the printed type, the printed normal form, or the digest of the normal form.
+//! The commands that infer a type: from an expression with its values to the printed type, the printed normal form, or the digest of
+//! the normal form.
 
-ghost use Rattle.std.specs.Prelude.{◌≡◌, ◌≢◌, ◌≤◌, ◌+◌, ◌^◌, ℕ, List, [], IsTrue, IfOk, IfErr, Ok};
-ghost use Rattle.dh_syntax.specs.Command.Answer.{Does, IsTyped, TypedAnswer, answer, digest_line, fault as fault_of, line};
+ghost use Rattle.std.specs.Prelude.{◌≡◌, ◌≢◌, ◌≤◌, ◌<◌, ◌+◌, ◌^◌, ℕ, List, [], IsTrue, IfOk, IfErr, Ok};
+ghost use Rattle.dh_syntax.specs.Command.Answer.{IsTyped, TypedAnswer, answer, digest_line, fault as fault_of, line};
 ghost use Rattle.dh_syntax.specs.Command.FaultLines.{norm_fault_line};
 ghost use Rattle.dh_syntax.specs.Command.Words.{types};
 ghost use Rattle.dh_syntax.specs.Expressions.Arity.{IsWellFormed};
 ghost use Rattle.dh_syntax.specs.Expressions.Bridge.{term};
 ghost use Rattle.dh_syntax.specs.Expressions.Nesting.{nesting};
-ghost use Rattle.dh_syntax.specs.Expressions.Spellable.{IsSpellable};
 ghost use Rattle.dh_syntax.specs.Expressions.Tree.{Term};
+ghost use Rattle.dh_syntax.specs.Imports.Machine.{outcome_of};
+ghost use Rattle.dh_syntax.specs.Imports.Readings.{Reading, root_reading};
 ghost use Rattle.dh_syntax.specs.Limits.{most_nesting, whole_purse};
 ghost use Rattle.dh_syntax.specs.Names.Indices.{IndicesBelow};
 ghost use Rattle.dh_syntax.specs.Normalising.Named.{names};
@@ -19,19 +21,18 @@ ghost use Rattle.dh_syntax.specs.Typing.NamedTyping.{IsIll};
 ghost use Rattle.dh_syntax.specs.declared.faults.NormFault.TheVariants as limits;
 ghost use Rattle.dh_syntax.specs.declared.statuses.Status.TheVariants as statuses;
 ghost use Rattle.dh_syntax.specs.declared.verbs.Verb.TheVariants as verbs;
+ghost use Rattle.dh_table.specs.States.{state_of};
 ghost use Rattle.dh_top.specs.Replies.{written};
 
-use crate::imports::has_imports;
-use crate::replies::{Reply, misspelling};
+use crate::faults::ill_reply;
+use crate::replies::Reply;
 use dh_digest::{digest, digest_text};
-use dh_faults::{Placed, place_of};
 use dh_infer::infer;
 use dh_norm::normal_form;
-use dh_parse::{parse, parse_spans};
+use dh_ports::World;
 use dh_print::print;
-use dh_syntax::{
-    Digest, Expr, Ill, NormFault, ParseFault, Purse, Status, TypeFault, Verb, WHOLE_PURSE,
-};
+use dh_syntax::{Digest, Expr, Ill, NormFault, Purse, Status, TypeFault, Verb, WHOLE_PURSE};
+use dh_table::Table;
 use std::alloc::{AllocError, Global};
 
 /// The reply that prints an expression on one line.
@@ -62,34 +63,11 @@ fn limit(alloc: Global, limit: NormFault) -> Result<Reply, AllocError>
     Ok(Reply::refusal(alloc, text, Status::Limit))
 }
 
-/// The reply that tells a place that has no type in the text that spells this expression.
-fn ill_reply(
-    alloc: Global,
-    verb: Verb,
-    text: &[u8],
-    e: &Expr,
-    ill: &Ill,
-) -> Result<Reply, AllocError>
-    requires spelled { ParsesTo text.now (Ok (term e.now)) }
-    requires refused { IsIll [] (term e.now) ill.now.path ill.now.rule }
-    ensures { IfOk result (λ r. TypedAnswer verb text.now (term e.now) (written r)) }
-{
-    match parse_spans(alloc, text) {
-        Ok((_, spans)) => {
-            let place = place_of(text, &spans, ill.path.as_slice());
-            let line = format!(in alloc; "{}\n", Placed { ill, place })?;
-            Ok(Reply::refusal(alloc, line, Status::Ill))
-        }
-        Err(fault) => match fault {
-            ParseFault::Memory => Err(AllocError),
-            _ => unreachable!(),
-        },
-    }
-}
-
 /// The normal form of an expression, found with a whole purse.
 fn whole_form(alloc: Global, e: &Expr) -> Result<Expr, NormFault>
-    requires { IsSpellable (term e.now) }
+    requires formed { IsWellFormed (term e.now) }
+    requires shallow { nesting (term e.now) < 2 ^ 32 }
+    requires indices { IndicesBelow (2 ^ 31) (term e.now) }
     ensures ok { IfOk result (λ f. HasNormalForm names (term e.now) (term f)) }
     ensures formed { IfOk result (λ f. IsWellFormed (term f)) }
     ensures shallow { IfOk result (λ f. nesting (term f) ≤ most_nesting) }
@@ -112,9 +90,11 @@ fn limited(alloc: Global, fault: NormFault) -> Result<Reply, AllocError>
 
 /// The reply of `normalize` to an expression that has a type.
 fn normal_reply(alloc: Global, e: &Expr) -> Result<Reply, AllocError>
-    requires spellable { IsSpellable (term e.now) }
+    requires formed { IsWellFormed (term e.now) }
+    requires shallow { nesting (term e.now) < 2 ^ 32 }
+    requires indices { IndicesBelow (2 ^ 31) (term e.now) }
     requires typed { (t : Term) × IsTyped (term e.now) t }
-    ensures { IfOk result (λ r. (text : List ℕ) → TypedAnswer verbs.Normalize text (term e.now) (written r)) }
+    ensures { IfOk result (λ r. (i : Reading) → TypedAnswer verbs.Normalize i (term e.now) (written r)) }
 {
     match whole_form(alloc, e) {
         Ok(form) => printed_line(alloc, &form),
@@ -124,9 +104,11 @@ fn normal_reply(alloc: Global, e: &Expr) -> Result<Reply, AllocError>
 
 /// The reply of `hash` to an expression that has a type.
 fn hash_reply(alloc: Global, e: &Expr) -> Result<Reply, AllocError>
-    requires spellable { IsSpellable (term e.now) }
+    requires formed { IsWellFormed (term e.now) }
+    requires shallow { nesting (term e.now) < 2 ^ 32 }
+    requires indices { IndicesBelow (2 ^ 31) (term e.now) }
     requires typed { (t : Term) × IsTyped (term e.now) t }
-    ensures { IfOk result (λ r. (text : List ℕ) → TypedAnswer verbs.Hash text (term e.now) (written r)) }
+    ensures { IfOk result (λ r. (i : Reading) → TypedAnswer verbs.Hash i (term e.now) (written r)) }
 {
     match whole_form(alloc, e) {
         Ok(form) => digest_reply(alloc, &digest(alloc, &form)?),
@@ -135,70 +117,64 @@ fn hash_reply(alloc: Global, e: &Expr) -> Result<Reply, AllocError>
 }
 
 /// The reply to an expression of this type.
-fn typed_reply(
-    alloc: Global,
-    verb: Verb,
-    text: &[u8],
-    e: &Expr,
-    typed: &Expr,
-) -> Result<Reply, AllocError>
+fn typed_reply(alloc: Global, verb: Verb, e: &Expr, typed: &Expr) -> Result<Reply, AllocError>
     requires types { IsTrue (types verb) }
-    requires spellable { IsSpellable (term e.now) }
+    requires formed { IsWellFormed (term e.now) }
+    requires shallow { nesting (term e.now) < 2 ^ 32 }
+    requires indices { IndicesBelow (2 ^ 31) (term e.now) }
     requires typed { IsTyped (term e.now) (term typed.now) }
-    requires formed { IsWellFormed (term typed.now) }
-    requires shallow { nesting (term typed.now) ≤ most_nesting }
-    ensures { IfOk result (λ r. TypedAnswer verb text.now (term e.now) (written r)) }
+    requires type_formed { IsWellFormed (term typed.now) }
+    requires type_shallow { nesting (term typed.now) ≤ most_nesting }
+    ensures { IfOk result (λ r. (i : Reading) → TypedAnswer verb i (term e.now) (written r)) }
 {
     match verb {
         Verb::Type => printed_line(alloc, typed),
         Verb::Normalize => normal_reply(alloc, e),
         Verb::Hash => hash_reply(alloc, e),
         Verb::Encode | Verb::Decode => unreachable!(),
+        Verb::Resolve | Verb::Freeze | Verb::Help | Verb::Version => unreachable!(),
     }
 }
 
-/// The reply to an expression that needs nothing outside of it.
-fn inferred_reply(alloc: Global, verb: Verb, text: &[u8], e: &Expr) -> Result<Reply, AllocError>
+/// The reply that tells a place of the root with its values that has no type, by its place in the text.
+fn ill_in_root<W: World>(
+    alloc: Global,
+    verb: Verb,
+    text: &[u8],
+    table: &Table<W>,
+    e: &Expr,
+    ill: &Ill,
+) -> Result<Reply, AllocError>
+    requires spelled { ParsesTo text.now (Ok (state_of table.now).root) }
+    requires refused { IsIll [] (term e.now) ill.now.path ill.now.rule }
+    ensures { IfOk result (λ r. TypedAnswer verb (root_reading text.now (state_of table.now).root (outcome_of (state_of table.now))) (term e.now) (written r)) }
+{
+    let path = table.root_path(alloc, ill.path.as_slice())?;
+    ill_reply(alloc, None, text, path.as_slice(), ill)
+}
+
+/// The reply to the root with its values, by a command that infers its type.
+pub(crate) fn typing<W: World>(
+    alloc: Global,
+    verb: Verb,
+    text: &[u8],
+    table: &Table<W>,
+    e: &Expr,
+) -> Result<Reply, AllocError>
     requires types { IsTrue (types verb) }
-    requires spelled { ParsesTo text.now (Ok (term e.now)) }
-    requires spellable { IsSpellable (term e.now) }
-    ensures { IfOk result (λ r. TypedAnswer verb text.now (term e.now) (written r)) }
+    requires spelled { ParsesTo text.now (Ok (state_of table.now).root) }
+    requires formed { IsWellFormed (term e.now) }
+    requires shallow { nesting (term e.now) < 2 ^ 32 }
+    requires indices { IndicesBelow (2 ^ 31) (term e.now) }
+    ensures { IfOk result (λ r. TypedAnswer verb (root_reading text.now (state_of table.now).root (outcome_of (state_of table.now))) (term e.now) (written r)) }
 {
     let mut purse = Purse { left: WHOLE_PURSE };
     match infer(alloc, e, &mut purse) {
-        Ok(typed) => typed_reply(alloc, verb, text, e, &typed),
-        Err(TypeFault::Ill(ill)) => ill_reply(alloc, verb, text, e, &ill),
+        Ok(typed) => typed_reply(alloc, verb, e, &typed),
+        Err(TypeFault::Ill(ill)) => ill_in_root(alloc, verb, text, table, e, &ill),
         Err(TypeFault::Wide) => limit(alloc, NormFault::Wide),
         Err(TypeFault::Spent) => limit(alloc, NormFault::Spent),
         Err(TypeFault::Deep) => limit(alloc, NormFault::Deep),
         Err(TypeFault::Memory) => Err(AllocError),
-    }
-}
-
-/// The reply to a text that spells this expression.
-fn spelled_reply(alloc: Global, verb: Verb, text: &[u8], e: &Expr) -> Result<Reply, AllocError>
-    requires types { IsTrue (types verb) }
-    requires spelled { ParsesTo text.now (Ok (term e.now)) }
-    requires spellable { IsSpellable (term e.now) }
-    ensures { IfOk result (λ r. Does verb text.now (written r)) }
-{
-    if has_imports(e) {
-        misspelling(alloc, ParseFault::Out(0))
-    } else {
-        inferred_reply(alloc, verb, text, e)
-    }
-}
-
-/// The reply of a command that infers a type to a text.
-pub(crate) fn typing(alloc: Global, verb: Verb, text: &[u8]) -> Result<Reply, AllocError>
-    requires { IsTrue (types verb) }
-    ensures { IfOk result (λ r. Does verb text.now (written r)) }
-{
-    match parse(alloc, text) {
-        Ok(e) => spelled_reply(alloc, verb, text, &e),
-        Err(fault) => match fault {
-            ParseFault::Memory => Err(AllocError),
-            _ => misspelling(alloc, fault),
-        },
     }
 }

@@ -16,12 +16,24 @@ fn verb_named(word: &str) -> Option<Verb>
         Some(Verb::Encode)
     } else if word == "decode" {
         Some(Verb::Decode)
+    } else if word == "resolve" {
+        Some(Verb::Resolve)
     } else if word == "type" {
         Some(Verb::Type)
     } else if word == "normalize" {
         Some(Verb::Normalize)
     } else if word == "hash" {
         Some(Verb::Hash)
+    } else if word == "freeze" {
+        Some(Verb::Freeze)
+    } else if word == "help" {
+        Some(Verb::Help)
+    } else if word == "--help" {
+        Some(Verb::Help)
+    } else if word == "-h" {
+        Some(Verb::Help)
+    } else if word == "--version" {
+        Some(Verb::Version)
     } else {
         None
     }

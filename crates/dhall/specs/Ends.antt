@@ -6,6 +6,7 @@ use Rattle.dh_syntax.specs.declared.statuses.Status.{Status}
 use Rattle.dh_syntax.specs.Command.Answer.{without_memory}
 use Rattle.dh_syntax.specs.Command.Statuses.{code_of}
 use Rattle.dh_syntax.specs.Command.Words.{Word}
+use Rattle.dh_top.specs.Outside.{Outside}
 use Rattle.dh_top.specs.Runs.{Input, Output, Runs, Delivers}
 
 -- the words after the program's name, and none where one of them cannot be told
@@ -13,10 +14,10 @@ abbrev pub words_told : {S A E : Type 0} → (S → Word) → Result (IntoIter S
 words_told text (Ok args) = map text (drop 1 (into_iter_items args))
 words_told text (Err e) = []
 
--- the command ran on these words and devices, and the process ends with its status
-pub record Ends (words : List Word) (input : Input) (out err : Output) (n : ℕ) : Type 0 where
+-- the command ran on these words, desks and streams, and the process ends with its status
+pub record Ends (words : List Word) (input : Input) (o : Outside) (out err : Output) (n : ℕ) : Type 0 where
   pub status : Status
-  pub runs : Runs words input out err status
+  pub runs : Runs words input o out err status
   pub exits : n ≡ code_of status
 
 -- want of memory was told, and the process ends with the status of it

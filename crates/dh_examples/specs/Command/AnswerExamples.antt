@@ -31,6 +31,21 @@ type_alone = refl
 hash_with_workers : command_of (codes "hash" ∷ codes "--workers" ∷ codes "1" ∷ []) ≡ Ok (record { verb = verb.Hash; workers = 1 })
 hash_with_workers = refl
 
+freeze_with_workers : command_of (codes "freeze" ∷ codes "--workers" ∷ codes "8" ∷ []) ≡ Ok (record { verb = verb.Freeze; workers = 8 })
+freeze_with_workers = refl
+
+-- words that tell of the program
+help_words : map command_of ((codes "help" ∷ []) ∷ (codes "--help" ∷ []) ∷ (codes "-h" ∷ []) ∷ (codes "--version" ∷ []) ∷ [])
+    ≡ Ok (record { verb = verb.Help; workers = 4 }) ∷ Ok (record { verb = verb.Help; workers = 4 }) ∷ Ok (record { verb = verb.Help; workers = 4 })
+    ∷ Ok (record { verb = verb.Version; workers = 4 }) ∷ []
+help_words = refl
+
+help_and_more : command_of (codes "--help" ∷ codes "x" ∷ []) ≡ Err 2
+help_and_more = refl
+
+no_long_word : command_of (codes "version" ∷ []) ≡ Err 1
+no_long_word = refl
+
 encode_and_more : command_of (codes "encode" ∷ codes "x" ∷ []) ≡ Err 2
 encode_and_more = refl
 

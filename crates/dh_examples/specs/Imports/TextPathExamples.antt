@@ -42,8 +42,8 @@ beside = refl
 -- `./a` over a text that says `1 + 1` ends with `2`, and over none with its fault
 ends_ready : EndsBy (texts ((a_, says (sum one one)) ∷ [])) (import a_) (ready (form.natural 2))
 unfolding last_step
-ends_ready = resolved (Ready (form.natural 2)) (4, refl) refl
+ends_ready = resolved (Ready (form.natural 2)) refl (4, refl) refl
 
 ends_bad : EndsBy (texts ((a_, found.Absent) ∷ [])) (import a_) (bad (record { at = Some (code a_); why = Absent }))
 unfolding last_step
-ends_bad = resolved (Fails (record { at = Some (code a_); why = Absent })) (4, refl) refl
+ends_bad = resolved (Fails (record { at = Some (code a_); why = Absent })) refl (4, refl) refl

@@ -1,5 +1,5 @@
 -- What the command writes and how it ends, for every list of words and every input.
-use Rattle.std.specs.Prelude.{◌≡◌, ◌≤◌, ◌<◌, ◌⊎◌, ℕ, false, IsTrue, List, [], ◌∷◌, ◌++◌, drop, length, Some, Result, Ok, Err}
+use Rattle.std.specs.Prelude.{◌≡◌, ◌≤◌, ◌<◌, ◌⊎◌, ℕ, IsTrue, List, [], ◌∷◌, ◌++◌, drop, length, Option, Some, None, Result, Ok, Err, ⊤}
 use Rattle.dh_syntax.specs.declared.commands.Command.{Command}
 use Rattle.dh_syntax.specs.declared.faults.DecodeFault.{DecodeFault}
 use Rattle.dh_syntax.specs.declared.faults.Ill.{Ill}
@@ -8,6 +8,9 @@ use Rattle.dh_syntax.specs.declared.faults.NormFault.TheVariants as limit
 use Rattle.dh_syntax.specs.declared.faults.ParseFault.{ParseFault}
 use Rattle.dh_syntax.specs.declared.faults.ParseFault.TheVariants as parse
 use Rattle.dh_syntax.specs.declared.locations.Digest.{Digest}
+use Rattle.dh_syntax.specs.declared.locations.Key.{Key}
+use Rattle.dh_syntax.specs.declared.outcomes.Blame.{Blame}
+use Rattle.dh_syntax.specs.declared.outcomes.Why.TheVariants as why
 use Rattle.dh_syntax.specs.declared.statuses.Status.{Status}
 use Rattle.dh_syntax.specs.declared.statuses.Status.TheVariants as status
 use Rattle.dh_syntax.specs.declared.verbs.Verb.{Verb}
@@ -15,14 +18,22 @@ use Rattle.dh_syntax.specs.declared.verbs.Verb.TheVariants as verb
 use Rattle.dh_syntax.specs.Bytes.Binary.{enc}
 use Rattle.dh_syntax.specs.Bytes.BinaryFaults.{DecodesTo}
 use Rattle.dh_syntax.specs.Command.FaultLines.{parse_fault_line, decode_fault_line, norm_fault_line, usage_line, read_line, memory_line}
-use Rattle.dh_syntax.specs.Command.LeftOut.{has_imports}
-use Rattle.dh_syntax.specs.Command.PlacedFaults.{ill_line_in}
-use Rattle.dh_syntax.specs.Command.Words.{Word, command_of, types, takes_form}
+use Rattle.dh_syntax.specs.Command.FrozenTexts.{IsFrozenText}
+use Rattle.dh_syntax.specs.Command.ImportFaults.{ill_of, in_item, why_line, why_status}
+use Rattle.dh_syntax.specs.Command.PlacedFaults.{ill_line_at}
+use Rattle.dh_syntax.specs.Command.Telling.{help_text, version_text}
+use Rattle.dh_syntax.specs.Command.Words.{Word, command_of, resolves, types, takes_form}
 use Rattle.dh_syntax.specs.Expressions.Nesting.{nesting}
 use Rattle.dh_syntax.specs.Expressions.Tree.{Term}
 use Rattle.dh_syntax.specs.Imports.LastStep.{digest_of}
+use Rattle.dh_syntax.specs.Imports.Readings.{Reading, HasValue, IsReading, root_reading}
+use Rattle.dh_syntax.specs.Imports.Records.{Record}
+use Rattle.dh_syntax.specs.Imports.Replay.{ready, bad, looped, too_many}
+use Rattle.dh_syntax.specs.Imports.RootEnds.{EndsBy}
+use Rattle.dh_syntax.specs.Imports.TextPaths.{text_path}
+use Rattle.dh_syntax.specs.Imports.Walk.{Ask}
 use Rattle.dh_syntax.specs.Limits.{most_bytes, most_nesting, whole_purse}
-use Rattle.dh_syntax.specs.Normalising.Heads.{Found}
+use Rattle.dh_syntax.specs.Normalising.Heads as heads
 use Rattle.dh_syntax.specs.Normalising.Named.{names}
 use Rattle.dh_syntax.specs.Normalising.Normal.{HasNormalForm, Normalises, IsLicensed, IsDeepLicensed}
 use Rattle.dh_syntax.specs.Text.Printed.{digest_text, text_of}
@@ -76,7 +87,7 @@ abbrev pub decoded : Result Term DecodeFault → Response
 decoded (Ok e) = answer (line (text_of e))
 decoded (Err f) = fault (decode_fault_line f) status.Text
 
--- ---- `type`, `normalize` and `hash`
+-- ---- `resolve`, `type`, `normalize`, `hash` and `freeze`
 
 -- some number of units gives the expression this type
 abbrev pub IsTyped : Term → Term → Type 0
@@ -96,28 +107,68 @@ pub data Prints (e t : Term) : Verb → List ℕ → Type 0 where
 abbrev pub IsLimit : Verb → Term → NormFault → Type 0
 IsLimit v e l = IsTypeLimit [] whole_purse e l ⊎ (IsTrue (takes_form v) × ((t : Term) × IsTyped e t) × IsLicensed names nesting whole_purse e l)
 
--- What is written of the expression that a text spells, if it needs nothing outside of it.
-pub data TypedAnswer (v : Verb) (text : List ℕ) (e : Term) (w : Response) : Type 0 where
-  prints : (t : Term) (bytes : List ℕ) → IsTyped e t → Prints e t v bytes → w ≡ answer (line bytes) → TypedAnswer v text e w
+-- the line of a type fault that is found in an item with the values of its imports, at the place in the item's own text
+pub record IsIllLine (i : Reading) (f : Ill) (bytes : List ℕ) : Type 0 where
+  pub nodes : Spans
+  pub stand : SpellsAt i.text i.spelled nodes
+  pub line_is : bytes ≡ in_item i.at (ill_line_at i.text nodes (text_path i.at i.ask i.spelled f.path) f)
+
+-- What is written of an expression with its values, by a command that infers its type.
+pub data TypedAnswer (v : Verb) (i : Reading) (e : Term) (w : Response) : Type 0 where
+  prints : (t : Term) (bytes : List ℕ) → IsTyped e t → Prints e t v bytes → w ≡ answer (line bytes) → TypedAnswer v i e w
   -- the first place that has no type, with its place in the text
-  refuses : (nodes : Spans) (f : Ill) → SpellsAt text e nodes → IsIll [] e f.path f.rule → w ≡ fault (ill_line_in text nodes f) status.Ill → TypedAnswer v text e w
-  limited : (l : NormFault) → ¬ (l ≡ limit.Memory) → IsLimit v e l → w ≡ fault (norm_fault_line l) status.Limit → TypedAnswer v text e w
+  refuses : (f : Ill) (bytes : List ℕ) → IsIll [] e f.path f.rule → IsIllLine i f bytes → w ≡ fault bytes status.Ill → TypedAnswer v i e w
+  limited : (l : NormFault) → ¬ (l ≡ limit.Memory) → IsLimit v e l → w ≡ fault (norm_fault_line l) status.Limit → TypedAnswer v i e w
 
--- what a command writes of its input
-pub data Does (v : Verb) (input : List ℕ) (w : Response) : Type 0 where
-  encodes : (r : Result Term ParseFault) → v ≡ verb.Encode → ParsesTo input r → w ≡ encoded r → Does v input w
-  decodes : (r : Result Term DecodeFault) → v ≡ verb.Decode → length input ≤ most_bytes → DecodesTo input r → w ≡ decoded r → Does v input w
+-- What is written of an expression with its values: `resolve` prints it, `freeze` writes its text with the digests of its imports and
+-- no line feed, and the others infer its type.
+pub data ValuedAnswer (v : Verb) (i : Reading) (e : Term) (w : Response) : Type 0 where
+  itself : v ≡ verb.Resolve → w ≡ answer (line (text_of e)) → ValuedAnswer v i e w
+  frozen : (bytes : List ℕ) → v ≡ verb.Freeze → IsFrozenText i.text i.spelled i.ask bytes → w ≡ answer bytes → ValuedAnswer v i e w
+  typed : IsTrue (types v) → TypedAnswer v i e w → ValuedAnswer v i e w
+
+-- the line of a fault of an item; a place without a type is told in the item's text
+pub data BlameLine (r : Record) (b : Blame) (bytes : List ℕ) : Type 0 where
+  why_alone : ill_of b.why ≡ None → bytes ≡ in_item b.at (why_line b.why) → BlameLine r b bytes
+  with_place : (f : Ill) (i : Reading) (value : Term) → ill_of b.why ≡ Some f → i.at ≡ b.at → IsReading r i value → IsIll [] value f.path f.rule
+      → IsIllLine i f bytes → BlameLine r b bytes
+
+-- what is written where an item at fault decides
+pub data FaultAnswer (r : Record) (b : Blame) (w : Response) : Type 0 where
+  at_fault : (bytes : List ℕ) → BlameLine r b bytes → w ≡ fault bytes (why_status b.why) → FaultAnswer r b w
+
+-- a loop is a fault of its least key, and too many keys are one of no key
+abbrev pub cycle_at : Key → Blame
+cycle_at j = record { at = Some j; why = why.Cycle }
+
+abbrev pub too_many_keys : Blame
+too_many_keys = record { at = None; why = why.TooMany }
+
+-- What is written of the expression that a text spells, over what the run found: the answer to the expression with a value for each
+-- import, or the fault that decides it.
+pub data ResolvedAnswer (v : Verb) (text : List ℕ) (root : Term) (r : Record) (w : Response) : Type 0 where
+  valued : (e : Term) (ask : Ask) → EndsBy r root (ready e) → HasValue r (root_reading text root ask) e → ValuedAnswer v (root_reading text root ask) e w
+      → ResolvedAnswer v text root r w
+  faulty : (b : Blame) → EndsBy r root (bad b) → FaultAnswer r b w → ResolvedAnswer v text root r w
+  circular : (j : Key) → EndsBy r root (looped j) → FaultAnswer r (cycle_at j) w → ResolvedAnswer v text root r w
+  overfull : EndsBy r root too_many → FaultAnswer r too_many_keys w → ResolvedAnswer v text root r w
+
+-- what a command writes of its input, over what the run found
+pub data Does (v : Verb) (input : List ℕ) (r : Record) (w : Response) : Type 0 where
+  encodes : (e : Result Term ParseFault) → v ≡ verb.Encode → ParsesTo input e → w ≡ encoded e → Does v input r w
+  decodes : (e : Result Term DecodeFault) → v ≡ verb.Decode → length input ≤ most_bytes → DecodesTo input e → w ≡ decoded e → Does v input r w
   -- more bytes than a text may have are no binary form either
-  decodes_none : v ≡ verb.Decode → most_bytes < length input → w ≡ misspelt parse.TooLarge → Does v input w
-  spells : (e : Term) → IsTrue (types v) → ParsesTo input (Ok e) → has_imports e ≡ false → TypedAnswer v input e w → Does v input w
-  spells_none : (f : ParseFault) → IsTrue (types v) → ParsesTo input (Err f) → w ≡ misspelt f → Does v input w
-  -- an expression that needs what stands outside of it is left out
-  leaves_out : (e : Term) → IsTrue (types v) → ParsesTo input (Ok e) → IsTrue (has_imports e) → w ≡ misspelt (parse.Out 0) → Does v input w
+  decodes_none : v ≡ verb.Decode → most_bytes < length input → w ≡ misspelt parse.TooLarge → Does v input r w
+  spells : (e : Term) → IsTrue (resolves v) → ParsesTo input (Ok e) → ResolvedAnswer v input e r w → Does v input r w
+  spells_none : (f : ParseFault) → IsTrue (resolves v) → ParsesTo input (Err f) → w ≡ misspelt f → Does v input r w
+  -- of the program itself, whatever the input
+  helps : v ≡ verb.Help → w ≡ answer help_text → Does v input r w
+  tells_version : v ≡ verb.Version → w ≡ answer version_text → Does v input r w
 
--- the answer to these words and this input
-pub data CommandAnswer (words : List Word) (input : List ℕ) (w : Response) : Type 0 where
-  usage : (k : ℕ) → command_of words ≡ Err k → w ≡ misused k → CommandAnswer words input w
-  does : (c : Command) → command_of words ≡ Ok c → Does c.verb input w → CommandAnswer words input w
+-- the answer to these words and this input, over what the run found
+pub data CommandAnswer (words : List Word) (input : List ℕ) (r : Record) (w : Response) : Type 0 where
+  usage : (k : ℕ) → command_of words ≡ Err k → w ≡ misused k → CommandAnswer words input r w
+  does : (c : Command) → command_of words ≡ Ok c → Does c.verb input r w → CommandAnswer words input r w
 
 -- it has a type, and no limit may be named for its typing
 abbrev pub IsTypedInTime : Term → Type 0
@@ -125,12 +176,32 @@ IsTypedInTime e = ((t : Term) × IsTyped e t) × ((l : NormFault) → ¬ (l ≡ 
 
 -- the purse suffices for the normal form, and it is not too deep
 abbrev pub IsNormalInTime : Term → Type 0
-IsNormalInTime e = ((f : Term) × (left : ℕ) × Normalises names whole_purse e (Found f left)) × ¬ IsDeepLicensed names nesting e
+IsNormalInTime e = ((f : Term) × (left : ℕ) × Normalises names whole_purse e (heads.Found f left)) × ¬ IsDeepLicensed names nesting e
 
--- the command answers this input with status 0
-abbrev pub Succeeds : Verb → List ℕ → Type 0
-Succeeds verb.Encode input = (e : Term) × ParsesTo input (Ok e)
-Succeeds verb.Decode input = (e : Term) × (length input ≤ most_bytes) × DecodesTo input (Ok e)
-Succeeds verb.Type input = (e : Term) × ParsesTo input (Ok e) × (has_imports e ≡ false) × IsTypedInTime e
-Succeeds verb.Normalize input = (e : Term) × ParsesTo input (Ok e) × (has_imports e ≡ false) × IsTypedInTime e × IsNormalInTime e
-Succeeds verb.Hash input = (e : Term) × ParsesTo input (Ok e) × (has_imports e ≡ false) × IsTypedInTime e × IsNormalInTime e
+-- the command answers this expression with its values by status 0
+abbrev pub SucceedsOn : Verb → Term → Type 0
+SucceedsOn verb.Encode e = ⊥
+SucceedsOn verb.Decode e = ⊥
+SucceedsOn verb.Resolve e = ⊤
+SucceedsOn verb.Type e = IsTypedInTime e
+SucceedsOn verb.Normalize e = IsTypedInTime e × IsNormalInTime e
+SucceedsOn verb.Hash e = IsTypedInTime e × IsNormalInTime e
+SucceedsOn verb.Freeze e = ⊤
+SucceedsOn verb.Help e = ⊥
+SucceedsOn verb.Version e = ⊥
+
+-- the text spells an expression whose imports have values, and the command answers that
+abbrev pub SucceedsBy : Verb → List ℕ → Record → Type 0
+SucceedsBy v input r = (root : Term) × (e : Term) × ParsesTo input (Ok root) × EndsBy r root (ready e) × SucceedsOn v e
+
+-- the command answers this input with status 0, over what the run found
+abbrev pub Succeeds : Verb → List ℕ → Record → Type 0
+Succeeds verb.Encode input r = (e : Term) × ParsesTo input (Ok e)
+Succeeds verb.Decode input r = (e : Term) × (length input ≤ most_bytes) × DecodesTo input (Ok e)
+Succeeds verb.Resolve input r = SucceedsBy verb.Resolve input r
+Succeeds verb.Type input r = SucceedsBy verb.Type input r
+Succeeds verb.Normalize input r = SucceedsBy verb.Normalize input r
+Succeeds verb.Hash input r = SucceedsBy verb.Hash input r
+Succeeds verb.Freeze input r = SucceedsBy verb.Freeze input r
+Succeeds verb.Help input r = ⊤
+Succeeds verb.Version input r = ⊤

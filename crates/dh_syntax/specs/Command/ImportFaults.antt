@@ -1,6 +1,7 @@
 -- The line and the status of a fault of an import.
 use Rattle.std.specs.Prelude.{ℕ, List, ◌++◌, Option, Some, None, codes}
 use Rattle.std.specs.Fmt.{decimal}
+use Rattle.dh_syntax.specs.declared.faults.Ill.{Ill}
 use Rattle.dh_syntax.specs.declared.faults.TypeFault.{TypeFault}
 use Rattle.dh_syntax.specs.declared.faults.TypeFault.TheVariants as types
 use Rattle.dh_syntax.specs.declared.locations.Digest.{Digest}
@@ -21,6 +22,11 @@ in_item (Some k) text = codes "in " ++ loc_text k.loc ++ codes ": " ++ text
 -- the two digests of a value that is another one than was asked for; each is written with a blank before it
 abbrev pub differs_line : Digest → Digest → List ℕ
 differs_line wanted got = codes "digest differs: wanted" ++ digest_text (Some wanted) ++ codes " got" ++ digest_text (Some got)
+
+-- the place without a type that a reason tells
+abbrev pub ill_of : Why → Option Ill
+ill_of (why.Typing (types.Ill f)) = Some f
+ill_of _ = None
 
 -- why an item has no value
 abbrev pub why_line : Why → List ℕ

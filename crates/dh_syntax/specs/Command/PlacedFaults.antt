@@ -10,6 +10,6 @@ use Rattle.dh_syntax.specs.Text.Spans.{Spans}
 abbrev pub placed_line : Ill → ℕ → ℕ → List ℕ
 placed_line ill line column = ill_line ill ++ codes ", line " ++ decimal line ++ codes ", column " ++ decimal column
 
--- the line of a fault in a text whose nodes stand in these stretches
-abbrev pub ill_line_in : List ℕ → Spans → Ill → List ℕ
-ill_line_in text nodes ill = placed_line ill (line_at text (start_of nodes ill.path)) (column_at text (start_of nodes ill.path))
+-- the line of a fault in a text whose nodes stand in these stretches, where this path leads to the node at fault
+abbrev pub ill_line_at : List ℕ → Spans → List ℕ → Ill → List ℕ
+ill_line_at text nodes path ill = placed_line ill (line_at text (start_of nodes path)) (column_at text (start_of nodes path))

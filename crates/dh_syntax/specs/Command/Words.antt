@@ -1,5 +1,5 @@
 -- The words of the command line, the program's name left out.
-use Rattle.std.specs.Prelude.{ℕ, Bool, true, false, ◌&&◌, not, nat_le, ◌==◌, if◌then◌else◌, List, [], ◌∷◌, Option, Some, None, find, Result, Ok, Err, codes}
+use Rattle.std.specs.Prelude.{ℕ, Bool, true, false, ◌&&◌, not, nat_le, ◌==◌, if◌then◌else◌, List, [], ◌∷◌, Option, Some, None, option_map, find, Result, Ok, Err, codes}
 use Rattle.std.specs.Char.{is_ascii_digit}
 use Rattle.std.specs.List.{list_all}
 use Rattle.std.specs.Str.{byte}
@@ -16,43 +16,64 @@ Word = List ℕ
 
 -- ---- the commands
 
-abbrev pub verbs : List Verb
-verbs = verb.Encode ∷ verb.Decode ∷ verb.Type ∷ verb.Normalize ∷ verb.Hash ∷ []
-
-abbrev pub verb_name : Verb → Word
-verb_name verb.Encode = codes "encode"
-verb_name verb.Decode = codes "decode"
-verb_name verb.Type = codes "type"
-verb_name verb.Normalize = codes "normalize"
-verb_name verb.Hash = codes "hash"
+-- each word that names a command, with the command
+abbrev pub named : List (Word × Verb)
+named =
+    (codes "encode", verb.Encode) ∷ (codes "decode", verb.Decode) ∷ (codes "resolve", verb.Resolve) ∷ (codes "type", verb.Type) ∷ (codes "normalize", verb.Normalize)
+    ∷ (codes "hash", verb.Hash) ∷ (codes "freeze", verb.Freeze) ∷ (codes "help", verb.Help) ∷ (codes "--help", verb.Help) ∷ (codes "-h", verb.Help)
+    ∷ (codes "--version", verb.Version) ∷ []
 
 -- which commands read their input
 abbrev pub reads : Verb → Bool
 reads verb.Encode = true
 reads verb.Decode = true
+reads verb.Resolve = true
 reads verb.Type = true
 reads verb.Normalize = true
 reads verb.Hash = true
+reads verb.Freeze = true
+reads verb.Help = false
+reads verb.Version = false
 
--- which commands infer a type
+-- which commands resolve imports
+abbrev pub resolves : Verb → Bool
+resolves verb.Encode = false
+resolves verb.Decode = false
+resolves verb.Resolve = true
+resolves verb.Type = true
+resolves verb.Normalize = true
+resolves verb.Hash = true
+resolves verb.Freeze = true
+resolves verb.Help = false
+resolves verb.Version = false
+
+-- which of them infer a type
 abbrev pub types : Verb → Bool
 types verb.Encode = false
 types verb.Decode = false
+types verb.Resolve = false
 types verb.Type = true
 types verb.Normalize = true
 types verb.Hash = true
+types verb.Freeze = false
+types verb.Help = false
+types verb.Version = false
 
 -- which of them find a normal form too
 abbrev pub takes_form : Verb → Bool
 takes_form verb.Encode = false
 takes_form verb.Decode = false
+takes_form verb.Resolve = false
 takes_form verb.Type = false
 takes_form verb.Normalize = true
 takes_form verb.Hash = true
+takes_form verb.Freeze = false
+takes_form verb.Help = false
+takes_form verb.Version = false
 
 -- the command that a word names
 abbrev pub verb_of : Word → Option Verb
-verb_of w = find (λ v. bytes_eq (verb_name v) w) verbs
+verb_of w = option_map (λ p. p.1) (find (λ p. bytes_eq p.0 w) named)
 
 -- ---- command lines
 

@@ -1,5 +1,5 @@
 -- The search for an open task.
-use Rattle.std.specs.Prelude.{◌≡◌, ◌⊎◌, ◌<◌, ◌≤◌, ℕ, Bool, true, false, if◌then◌else◌, sum_by, List, [], length, map, reverse, slice_index_or, slice_set, Option, Some, None, is_none, vec_len}
+use Rattle.std.specs.Prelude.{◌≡◌, ◌⊎◌, ◌<◌, ◌≤◌, ◌+◌, ℕ, zero, suc, Bool, true, false, if◌then◌else◌, sum_by, List, [], length, map, reverse, slice_index_or, Option, Some, None, is_none}
 use Rattle.dh_syntax.specs.declared.locations.Key.{Key}
 use Rattle.dh_syntax.specs.declared.locations.Loc.{Loc}
 use Rattle.dh_syntax.specs.declared.outcomes.Origin.{Origin}
@@ -16,13 +16,14 @@ use Rattle.dh_syntax.specs.Imports.Walk.{Turns, wants}
 use Rattle.dh_demand.specs.Results.{ask_of}
 use Rattle.dh_demand.specs.Results.{number_of}
 use Rattle.dh_table.specs.declared.explored.Explored.{Explored}
-use Rattle.dh_table.specs.declared.searches.Pass.{Pass}
-use Rattle.dh_table.specs.declared.searches.Pass.TheVariants as passes
+use Rattle.dh_table.specs.declared.searches.Tried.{Tried}
+use Rattle.dh_table.specs.declared.searches.Tried.TheVariants as tries
 use Rattle.dh_table.specs.declared.steps.Flight.{Flight}
 use Rattle.dh_table.specs.declared.steps.Job.{Job}
 use Rattle.dh_table.specs.declared.texts.Entrant.{Entrant}
 use Rattle.dh_table.specs.declared.texts.Look.{Look}
 use Rattle.dh_table.specs.declared.texts.Text.{Text}
+use Rattle.dh_table.specs.Inside.Piling.{IsBare, IsPoured, number_at}
 use Rattle.dh_table.specs.States.{IsFrozenLook, rows_of, key_named, task_of, flight_of, text_of, look_of}
 
 -- the state has these keys, texts, looks and flights
@@ -63,16 +64,6 @@ pub record IsSeen (s : State) (keys : List Entrant) (flights : List Flight) (mar
   pub leads : (j : Key) → IsAmong j (leads_to s k) → IsMarked keys marks j
   pub tasks : (t : Task) → IsTaskAt k (stage_of s k) t → Flies keys flights t
 
--- what is known of the marks of wanted keys, and of those that were seen
-pub record IsExplored (s : State) (keys : List Entrant) (flights : List Flight) (marks seen : List Bool) : Type 0 where
-  pub by_root : (k : Key) → IsAmong k (wants None (outcome_of s) s.root) → IsMarked keys marks k
-  pub sound : (n : ℕ) → is_set marks n ≡ true → (n < length keys) × Wanted s (key_named keys n)
-  pub closed : (n : ℕ) → is_set seen n ≡ true → IsSeen s keys flights marks (key_named keys n)
-
--- each marked key was seen
-abbrev pub IsStill : List Bool → List Bool → Type 0
-IsStill marks seen = (n : ℕ) → is_set marks n ≡ true → is_set seen n ≡ true
-
 -- an open task, or none is open
 pub record IsJob (s : State) (keys : List Entrant) (j : Job) : Type 0 where
   pub open_task : IsOpen s (task_of keys j)
@@ -92,41 +83,69 @@ pub record IsWaiting (s : State) (keys : List Entrant) (marks : List Bool) (n m 
   pub stage_is : stage_of s (key_named keys n) ≡ Waits (key_named keys m)
   pub leads : (j : Key) → IsAmong j (leads_to s (key_named keys n)) → IsMarked keys marks j
 
-abbrev pub number_at : List ℕ → ℕ → ℕ
-number_at ns n = slice_index_or ns n 0
+abbrev pub IsDecided : State → Key → Type 0
+IsDecided s k = ¬ (outcome_of s k ≡ None)
 
--- the marked keys are wanted, those that the root wants among them, and of these some are known to wait
-pub record AreKnown (s : State) (keys : List Entrant) (marks waiting : List Bool) (blocking : List ℕ) : Type 0 where
+-- The marked keys are wanted or were decided since, those that the root wants among them, and each is on a pile or was taken
+-- from one: a key of the pile m + 4 waits for the key of the number m. A taken key is decided, unless it is at the hole.
+pub record AreKnown (s : State) (keys : List Entrant) (hole : ℕ → Type 0) (marks : List Bool) (places : List ℕ) : Type 0 where
   pub by_root : (k : Key) → IsAmong k (wants None (outcome_of s) s.root) → IsMarked keys marks k
-  pub sound : (n : ℕ) → is_set marks n ≡ true → (n < length keys) × Wanted s (key_named keys n)
-  pub waits : (n : ℕ) → is_set waiting n ≡ true → IsWaiting s keys marks n (number_at blocking n)
+  pub sound : (n : ℕ) → is_set marks n ≡ true → (n < length keys) × (Wanted s (key_named keys n) ⊎ IsDecided s (key_named keys n))
+  pub there : (n : ℕ) → is_set marks n ≡ true → ¬ (number_at places n ≡ 0)
+  pub back : (n : ℕ) → ¬ (number_at places n ≡ 0) → is_set marks n ≡ true
+  pub taken : (n : ℕ) → number_at places n ≡ 1 → hole n ⊎ IsDecided s (key_named keys n)
+  pub waits : (n m : ℕ) → number_at places n ≡ m + 4 → IsWaiting s keys marks n m
+
+abbrev pub no_hole : ℕ → Type 0
+no_hole n = ⊥
 
 abbrev pub IsExploredBy : State → List Entrant → Explored → Type 0
-IsExploredBy s keys e = AreKnown s keys e.marks e.waiting e.blocking.items
+IsExploredBy s keys e = AreKnown s keys no_hole e.marks e.piles
 
 -- so it is, unless nothing is known
 abbrev pub Knows : State → List Entrant → Explored → Type 0
 Knows s keys e = e.known ≡ true → IsExploredBy s keys e
 
+-- and each key of the pile 3 was seen
+pub record IsSearched (s : State) (keys : List Entrant) (flights : List Flight) (hole : ℕ → Type 0) (marks : List Bool) (places : List ℕ) : Type 0 where
+  pub known : AreKnown s keys hole marks places
+  pub held : (n : ℕ) → number_at places n ≡ 3 → IsSeen s keys flights marks (key_named keys n)
+
+-- what a look at the next key of the pile 2 came to
+abbrev pub IsTried : State → List Entrant → List Flight → List Bool → List ℕ → Tried → Type 0
+IsTried s keys flights marks places (tries.Open j) = IsJob s keys j × AreKnown s keys no_hole marks places
+IsTried s keys flights marks places tries.Further = IsSearched s keys flights no_hole marks places
+IsTried s keys flights marks places tries.Nothing = IsSearched s keys flights no_hole marks places × IsBare 2 places
+
+-- marked keys that were on no pile are put on the pile 2
+abbrev pub ArePut : List Bool → List ℕ → List ℕ → Type 0
+ArePut marks old new = (n : ℕ) → (number_at new n ≡ number_at old n) ⊎ ((number_at old n ≡ 0) × (number_at new n ≡ 2) × (is_set marks n ≡ true))
+
+abbrev pub turns_left : ℕ → ℕ
+turns_left zero = 2
+turns_left (suc zero) = 0
+turns_left (suc (suc zero)) = 1
+turns_left (suc (suc (suc n))) = 0
+
+-- how often keys may still be put on the pile 2 or taken from it
+abbrev pub left_to_see : List ℕ → ℕ
+left_to_see places = sum_by turns_left places
+
 -- there is room for what is known of so many keys
 pub record HasRoom (keys : ℕ) (e : Explored) : Type 0 where
   pub marks : keys ≤ length e.marks
-  pub waiting : keys ≤ length e.waiting
-  pub blocking : keys ≤ vec_len e.blocking
+  pub piles : keys ≤ length e.piles
 
 -- all but the room is as it was
 pub record IsSameKnown (old new : Explored) : Type 0 where
   pub known_is : new.known ≡ old.known
   pub marks_are : (n : ℕ) → is_set new.marks n ≡ is_set old.marks n
-  pub waiting_are : (n : ℕ) → is_set new.waiting n ≡ is_set old.waiting n
-  pub blocking_are : (n : ℕ) → number_at new.blocking.items n ≡ number_at old.blocking.items n
+  pub piles_are : (n : ℕ) → number_at new.piles n ≡ number_at old.piles n
 
--- the key of the number n has lost its mark, and no key is known to wait for it
-pub record IsUnblocked (keys n : ℕ) (old new : Explored) : Type 0 where
-  pub marks_are : new.marks ≡ slice_set old.marks n false
-  pub waiting : (i : ℕ) → is_set new.waiting i ≡ true → is_set old.waiting i ≡ true
-  pub unblocked : (i : ℕ) → i < keys → is_set new.waiting i ≡ true → ¬ (number_at old.blocking.items i ≡ n)
-  pub blocking_is : new.blocking.items ≡ old.blocking.items
+-- the keys that waited for that of the number n are on the pile 2
+pub record IsUnblocked (n : ℕ) (old new : Explored) : Type 0 where
+  pub marks_are : new.marks ≡ old.marks
+  pub poured : IsPoured (n + 4) 2 old.piles new.piles
 
 -- each text may read a value of this origin at this location
 abbrev pub is_open_origin : Loc → Origin → Bool
@@ -138,12 +157,6 @@ is_open_origin l origins.Made = true
 abbrev pub is_open_value : Loc → program.Outcome → Bool
 is_open_value l (outcomes.Good v o) = is_open_origin l o
 is_open_value l (outcomes.Bad b) = false
-
--- what a pass came to
-abbrev pub IsPassed : State → List Entrant → List Flight → List Bool → List Bool → Pass → Type 0
-IsPassed s keys flights marks seen (passes.Open j) = IsJob s keys j
-IsPassed s keys flights marks seen passes.Further = IsExplored s keys flights marks seen
-IsPassed s keys flights marks seen passes.Still = IsExplored s keys flights marks seen × IsStill marks seen
 
 abbrev pub one_unless : Bool → ℕ
 one_unless b = if b then 0 else 1

@@ -1,12 +1,11 @@
-use Rattle.std.proofs.Common.{◌≡◌, ◌++◌, List, [], Option, None, sym, ap, ◌∙◌, refl, length, ◌<◌, subst as along}
-use Rattle.std.specs.Prelude.{All}
+use Rattle.std.proofs.Common.{◌≡◌, List, [], None, sym, ap, ◌∙◌, refl, length, ◌<◌, subst as along}
 use Rattle.std.proofs.lemmas.List.Elements.{All-nil}
 use Rattle.dh_syntax.specs.declared.expressions.Expr.TheVariants as expr
 use Rattle.dh_syntax.specs.declared.expressions.Kid.{Kid}
 use Rattle.dh_syntax.specs.declared.expressions.Op.TheVariants as ops
 use Rattle.dh_syntax.specs.Expressions.Bridge.{term, row_of}
 use Rattle.dh_syntax.specs.Expressions.Tree.{Node, end, Term}
-use Rattle.dh_syntax.specs.Imports.Walk.{other, Ready, walk, walk_node, walks, keys_of, keys_of_row}
+use Rattle.dh_syntax.specs.Imports.Walk.{other, walk, walk_node, walks, keys_of, keys_of_row}
 use Rattle.dh_syntax.proofs.Bridge.{row_of-nil, at_term-Node}
 use Rattle.dh_demand.specs.declared.scans.Edge.{Edge}
 use Rattle.dh_demand.specs.Results.{Row, ask_of}
@@ -53,3 +52,6 @@ is_assembled-requires-2 g c = literal_ready _ _ _ c.new.ensures c.new-2.ensures
 
 pub text_path-requires : goal.text_path-requires
 text_path-requires g c = literal_fits _ _ _ c.new.ensures c.new-2.ensures
+
+pub keys_behind-requires : goal.keys_behind-requires
+keys_behind-requires g c = literal_fits _ _ _ c.new.ensures c.new-2.ensures

@@ -9,7 +9,7 @@ use Rattle.dh_demand.specs.Results.{ask_of}
 use Rattle.dh_demand.specs.Scans.{text_key}
 use Rattle.dh_demand.proofs.Edges.{inside-drop, begins_at_item}
 use Rattle.dh_demand.proofs.Nexting.{as_begins, choice_keys, other_keys, two_begin, unbuilt}
-use Rattle.dh_demand.proofs.Ways.{on_ok, no_more, no_part, on_part, variable_way, import_way, other_way, choice_way, no_choice_way, left_way, right_way, on_the_way-start, on_the_way-item, at_the_part, no_such_part}
+use Rattle.dh_demand.proofs.Ways.{on_ok, no_more, on_part, variable_way, import_way, other_way, choice_way, no_choice_way, left_way, right_way, on_the_way-start, on_the_way-item, at_the_part, no_such_part}
 use Rattle.dh_demand.proofs.text_paths.+text_paths.Goals as goal
 
 pub push_part-loop-kid-init : goal.push_part-loop-kid-init

@@ -1,4 +1,4 @@
-use Rattle.std.proofs.Common.{◌≡◌, ap, sym, ◌∙◌, subst, false, true}
+use Rattle.std.proofs.Common.{◌≡◌, map, ap, sym, ◌∙◌, subst, false, true}
 use Rattle.std.specs.Prelude.{IfSome}
 use Rattle.dh_syntax.specs.Expressions.Bridge.{term}
 use Rattle.dh_syntax.specs.Expressions.Tree.{Term}
@@ -7,8 +7,8 @@ use Rattle.dh_syntax.specs.Imports.Replay.{has_too_many, root_end}
 use Rattle.dh_table.specs.Roots.{IsFitEnd}
 use Rattle.dh_table.specs.Shown.{Shown}
 use Rattle.dh_table.specs.States.{state_of}
-use Rattle.dh_session.specs.Ended.{Ends}
-use Rattle.dh_session.specs.ResolvesTo.{ResolvesTo}
+use Rattle.dh_session.specs.Ended.{Ends, NoneFell}
+use Rattle.dh_syntax.specs.Imports.RootEnds.{EndsBy}
 use Rattle.dh_session.proofs.Answering.{ok_map, ok_both, no_fault}
 use Rattle.dh_session.proofs.runs.resolve_all.Goals as goal
 
@@ -21,9 +21,9 @@ returns-clause-ends g c =
 pub returns-clause-resolved : goal.returns-clause-resolved
 returns-clause-resolved g c =
     let root : term c.in_ok-closed.closed.root.expr ≡ term c.args.root = ap term c.in_ok-closed.ensures.root ∙ ap (λ (s : State). s.root) c.in_ok-table.ensures.opened.state_is in
-    ok_both c.answer_of.result (λ a. a.table ≡ c.in_ok-closed.closed) (λ a. IfSome (root_end (state_of a.table)) (ResolvesTo (state_of a.table) (state_of a.table).root))
-    (λ a. IfSome (root_end (state_of a.table)) (ResolvesTo (state_of a.table) (term c.args.root)))
-    (λ a same is. subst (λ e. IfSome (root_end (state_of a.table)) (ResolvesTo (state_of a.table) e)) (ap (λ (t : Shown). term t.root.expr) same ∙ root) is)
+    ok_both c.answer_of.result (λ a. a.table ≡ c.in_ok-closed.closed) (λ a. IfSome (root_end (state_of a.table)) (EndsBy (state_of a.table).recorded (state_of a.table).root))
+    (λ a. IfSome (root_end (state_of a.table)) (EndsBy (state_of a.table).recorded (term c.args.root)))
+    (λ a same is. subst (λ e. IfSome (root_end (state_of a.table)) (EndsBy (state_of a.table).recorded e)) (ap (λ (t : Shown). term t.root.expr) same ∙ root) is)
     c.answer_of.ensures.same c.answer_of.ensures.resolved
 
 pub returns-clause-fits : goal.returns-clause-fits
@@ -39,3 +39,8 @@ returns-clause-few g c =
 
 pub returns-clause-too_many : goal.returns-clause-too_many
 returns-clause-too_many g c = no_fault (has_too_many (opening (term c.args.root)) ≡ true) c.answer_of.result c.answer_of.ensures.memory
+
+pub returns-clause-counted : goal.returns-clause-counted
+returns-clause-counted g c =
+    ok_map c.answer_of.result (λ a. a.table ≡ c.in_ok-closed.closed) (λ a. NoneFell (map (λ d. g.D.Desk.faults d) c.args.desks.now.items) (map (λ d. g.D.Desk.faults d) c.run.new.desks.items))
+    (λ a same. c.in_ok-closed.ensures.counted) c.answer_of.ensures.same

@@ -1,5 +1,5 @@
 use Rattle.std.proofs.Common.{◌++◌, map, ap, ◌∙◌, arith}
-use Rattle.dh_session.proofs.Joins.{ends, stays}
+use Rattle.dh_session.proofs.Joins.{ends, none_fell, stays}
 use Rattle.dh_session.proofs.runs.run.Goals as goal
 
 pub returns-then-done-clause-ends : goal.returns-then-done-clause-ends
@@ -13,3 +13,6 @@ returns-then-done-clause-filed g c = stays (λ d. g.D.Desk.filed d) (λ p. p.des
 
 pub returns-else-done-clause-filed : goal.returns-else-done-clause-filed
 returns-else-done-clause-filed g c = stays (λ d. g.D.Desk.filed d) (λ p. p.desk) _ _ _ _ _ c.seat_desks.ensures.desks c.stand_again.ensures.desks c.work_places.ensures.count (λ i d lt. (c.work_places.ensures.each i d lt).files)
+
+pub returns-then-done-clause-counted : goal.returns-then-done-clause-counted
+returns-then-done-clause-counted g c = none_fell (λ d. g.D.Desk.faults d) (λ p. p.desk) _ _ _ _ _ c.seat_desks.ensures.desks c.stand_again.ensures.desks c.work_places.ensures.count (λ i d lt. (c.work_places.ensures.each i d lt).fails.0)

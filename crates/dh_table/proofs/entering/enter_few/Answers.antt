@@ -1,4 +1,4 @@
-use Rattle.std.proofs.Common.{◌≡◌, ◌<◌, sym, ◌∙◌, ap, length, subst as along}
+use Rattle.std.proofs.Common.{◌≡◌, sym, ◌∙◌, ap, subst as along}
 use Rattle.std.specs.Prelude.{take, ◌+◌, ◌++◌, ◌∷◌, [], List, None}
 use Rattle.std.proofs.lemmas.List.{take_more}
 use Rattle.dh_syntax.specs.declared.locations.Key.{Key}

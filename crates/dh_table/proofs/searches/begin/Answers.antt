@@ -1,10 +1,8 @@
-use Rattle.std.proofs.Common.{ap, ◌∙◌, subst as along, length}
-use Rattle.std.specs.Prelude.{◌≡◌, true, false, replicate}
-use Rattle.std.proofs.lemmas.List.{length-replicate}
+use Rattle.std.proofs.Common.{sym, length, subst as along}
+use Rattle.std.specs.Prelude.{List}
+use Rattle.dh_demand.specs.declared.scans.Edge.{Edge}
 use Rattle.dh_syntax.specs.Expressions.Bridge.{term}
-use Rattle.dh_table.specs.Inside.Searching.{is_set}
-use Rattle.dh_table.proofs.Known.{explored_known}
-use Rattle.dh_table.proofs.Seeing.{first_explored, nothing_set}
+use Rattle.dh_table.proofs.Searched.{Each, begun_known}
 use Rattle.dh_table.proofs.searches.begin.Goals as goal
 
 pub returns-clause-explored : goal.returns-clause-explored
@@ -12,7 +10,5 @@ returns-clause-explored c texts looks flights s r p k =
     let keys = c.args.keys.now in
     let old = c.args.explored.now in
     let e = c.clear.new.self in
-    explored_known s keys flights c.wanted.new.marks e.waiting e.waiting e.blocking.items
-    (first_explored keys texts looks flights s p (term c.args.root.now.expr) c.args.root.now.edges r c.requires.root (length old.marks) (length old.waiting) e.marks c.wanted.new.marks e.waiting c.requires.room.marks c.clear.ensures.marks
-    c.wanted.ensures c.clear.ensures.waiting)
-    (λ n h. nothing_set (length old.waiting) n (along (λ bs. is_set bs n ≡ true) c.clear.ensures.waiting h))
+    begun_known keys texts looks flights s p (term c.args.root.now.expr) c.args.root.now.edges r c.requires.root (length old.marks) (length old.piles) e.marks c.wanted.new.marks e.piles c.put_edges.new.piles c.requires.room.marks c.clear.ensures.marks
+    c.wanted.ensures c.clear.ensures.piles c.put_edges.ensures.put (along (λ (es : List Edge). Each es c.wanted.new.marks c.put_edges.new.piles) c.as_slice.ensures c.put_edges.ensures.each)

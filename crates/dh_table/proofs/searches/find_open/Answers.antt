@@ -1,24 +1,17 @@
-use Rattle.dh_table.proofs.Known.{known_explored}
-use Rattle.dh_table.proofs.Seeing.{none_open}
+use Rattle.std.proofs.Common.{◌≡◌, sym, ℕ, length, arith, subst as along}
+use Rattle.dh_table.proofs.Searched.{held_again, none_open}
 use Rattle.dh_table.proofs.searches.find_open.Goals as goal
 
-pub passes-init : goal.passes-init
-passes-init c =
-    let keys = c.args.keys.now in
+pub keys-init : goal.keys-init
+keys-init c =
     let e = c.begin.new.explored in
+    let r = c.begin.ensures.room in
     record {
-      room = c.begin.ensures.room;
-      seen = c.pass_over.ensures.len;
-      explored = λ s r p k. c.begin.ensures.explored c.args.texts.now c.args.looks.now c.args.flights.now s r p k;
-      searched =
-          λ s r p k.
-          known_explored s keys c.args.flights.now e.marks e.waiting c.pass_over.new.seen e.blocking.items (c.begin.ensures.explored c.args.texts.now c.args.looks.now c.args.flights.now s r p k) c.pass_over.ensures.only;
+      room = record { marks = r.marks; piles = let a = c.pour.ensures.len in let b = r.piles in omega arith };
+      searched = λ s r p k. held_again s c.args.keys.now c.args.flights.now e.marks e.piles c.pour.new.piles c.pour.ensures.poured (c.begin.ensures.explored c.args.texts.now c.args.looks.now c.args.flights.now s r p k);
     }
 
-pub returns-in-Open-clause-found : goal.returns-in-Open-clause-found
-returns-in-Open-clause-found c s r p k = c.in-Open.ensures.passed s p (c.passes.invariant.searched s r p k)
-
-pub returns-in-Still-clause-found : goal.returns-in-Still-clause-found
-returns-in-Still-clause-found c s r p k =
-    let e = c.in-Still.ensures.passed s p (c.passes.invariant.searched s r p k) in
-    none_open c.args.keys.now c.args.texts.now c.args.looks.now c.args.flights.now s p c.go_over.new.explored.marks c.go_over.new.seen e.0 e.1
+pub returns-in-Nothing-clause-found : goal.returns-in-Nothing-clause-found
+returns-in-Nothing-clause-found c s r p k =
+    let e = c.in-Nothing.ensures.tried s p (c.keys.invariant.searched s r p k) in
+    none_open c.args.keys.now c.args.texts.now c.args.looks.now c.args.flights.now s p c.try_next.new.explored.marks c.try_next.new.explored.piles e.0 e.1

@@ -1,16 +1,14 @@
 use Rattle.std.specs.Prelude.{◌≡◌, length}
 use Rattle.dh_syntax.specs.Expressions.Bridge.{term}
 use Rattle.dh_syntax.specs.Imports.Machine.{State}
-use Rattle.dh_table.specs.Inside.Searching.{HasRoom, IsExplored, IsExploredBy, Knows, Stands, unseen}
+use Rattle.dh_table.specs.Inside.Searching.{HasRoom, IsSearched, Knows, Stands, left_to_see, no_hole}
 use Rattle.dh_table.proofs.searches.find_open.Given as goal
 
-abbrev pub invariant-passes : goal.invariant-passes
-invariant-passes l = record {
+abbrev pub invariant-keys : goal.invariant-keys
+invariant-keys l = record {
   room : HasRoom (length l.keys) l.explored;
-  seen : length l.seen ≡ length l.fn.seen;
-  explored : (s : State) → s.root ≡ term l.root.expr → Stands l.keys l.texts l.looks l.flights s → Knows s l.keys l.fn.explored → IsExploredBy s l.keys l.explored;
-  searched : (s : State) → s.root ≡ term l.root.expr → Stands l.keys l.texts l.looks l.flights s → Knows s l.keys l.fn.explored → IsExplored s l.keys l.flights l.explored.marks l.seen;
+  searched : (s : State) → s.root ≡ term l.root.expr → Stands l.keys l.texts l.looks l.flights s → Knows s l.keys l.fn.explored → IsSearched s l.keys l.flights no_hole l.explored.marks l.explored.piles;
 }
 
-abbrev pub decreases-passes : goal.decreases-passes
-decreases-passes l = unseen l.seen
+abbrev pub decreases-keys : goal.decreases-keys
+decreases-keys l = left_to_see l.explored.piles

@@ -1,54 +1,65 @@
-use Rattle.std.proofs.Common.{rules, sym, subst as along, arith, length}
-use Rattle.std.specs.Prelude.{◌≡◌, ◌<◌, List, Bool, vec_len}
-use Rattle.dh_table.specs.Inside.Searching.{AreKnown, IsExplored}
-use Rattle.dh_table.proofs.Known.{key_known, key_waits, one_more_waits}
-use Rattle.dh_table.proofs.Seeing.{see_by, see_explored, waiting_tasks, flying_tasks, open_job}
+use Rattle.std.proofs.Common.{◌≡◌, ◌<◌, ◌≤◌, ◌+◌, ◌∙◌, ap, sym, ℕ, length, arith, subst as along}
+use Rattle.std.specs.Prelude.{List, slice_set}
+use Rattle.dh_syntax.specs.Imports.Resolver.{plan, stage}
+use Rattle.dh_demand.specs.Results.{ask_of}
+use Rattle.dh_table.specs.Inside.Reading.{record_by}
+use Rattle.dh_table.specs.Inside.Searching.{AreKnown, IsSearched, left_to_see, no_hole}
+use Rattle.dh_table.specs.States.{rows_of, key_named}
+use Rattle.dh_table.proofs.Known.{reach_waits}
+use Rattle.dh_table.proofs.Reaching.{leads_numbered}
+use Rattle.dh_table.proofs.Searched.{held_searched, open_tried, push_falls, put_falls, wait_searched}
 use Rattle.dh_table.proofs.searches.see.Goals as goal
 
-pub returns-in-Wait-clause-seen : goal.returns-in-Wait-clause-seen
-returns-in-Wait-clause-seen c s p set e =
+pub push-requires-clause-inside : goal.push-requires-clause-inside
+push-requires-clause-inside c =
+    let keys = c.args.keys.now in
+    let k = key_named keys c.args.n in
+    let r = reach_waits keys k (stage (record_by c.args.texts.now c.args.looks.now) (ask_of (rows_of keys)) k) c.in-Wait.by (c.in-Wait.ensures (plan (record_by c.args.texts.now c.args.looks.now) k) c.plan_of-plan.ensures) in
+    let a = r.0 in
+    let b = c.requires.room.piles in
+    let d = c.lead.ensures.len in
+    let e = c.waiters.ensures in
+    omega arith
+
+pub returns-in-Wait-clause-tried : goal.returns-in-Wait-clause-tried
+returns-in-Wait-clause-tried c s p u x =
     let keys = c.args.keys.now in
     let n = c.args.n in
-    along (λ (ms : List Bool). IsExplored s keys c.args.flights.now ms c.set.new.self) (sym c.block.ensures.marks)
-    (see_explored s keys c.args.flights.now n c.args.explored.now.marks c.visit-reach.new.marks c.args.seen.now c.set.new.self
-    (see_by keys c.args.texts.now c.args.looks.now c.args.flights.now s p n c.requires.inside c.args.explored.now.marks c.visit-reach.new.marks c.args.seen.now c.set.new.self set c.requires.room.marks
-    c.visit-reach.ensures.marks c.visit-reach.ensures.numbered c.set.ensures (waiting_tasks keys c.args.texts.now c.args.looks.now c.args.flights.now s p n c.requires.inside c.in-Wait.by c.in-Wait.ensures.reach))
-    e)
+    let k = key_named keys n in
+    let old = c.args.explored.now in
+    let its = plan (record_by c.args.texts.now c.args.looks.now) k in
+    let e = c.lead.new.explored in
+    along (λ (ps : List ℕ). IsSearched s keys c.args.flights.now no_hole e.marks ps) (sym (c.push.ensures ∙ ap (slice_set e.piles n) c.waiters.ensures))
+    (wait_searched keys c.args.texts.now c.args.looks.now c.args.flights.now s p n c.requires.inside u old.marks old.piles c.requires.taken x c.in-Wait.by e.marks e.piles c.requires.room.marks (c.in-Wait.ensures its c.plan_of-plan.ensures)
+    (c.lead.ensures.marks its c.plan_of-plan.ensures) (λ j m. leads_numbered (rows_of keys) k its c.plan_of-plan.result j c.plan_of-plan.ensures m) c.lead.ensures.put c.lead.ensures.each)
 
-pub returns-then-flies-clause-seen : goal.returns-then-flies-clause-seen
-returns-then-flies-clause-seen c s p set e =
-    let keys = c.args.keys.now in
-    let n = c.args.n in
-    see_explored s keys c.args.flights.now n c.args.explored.now.marks c.visit-reach.new.marks c.args.seen.now c.set.new.self
-    (see_by keys c.args.texts.now c.args.looks.now c.args.flights.now s p n c.requires.inside c.args.explored.now.marks c.visit-reach.new.marks c.args.seen.now c.set.new.self set c.requires.room.marks
-    c.visit-reach.ensures.marks c.visit-reach.ensures.numbered c.set.ensures
-    (flying_tasks keys c.args.texts.now c.args.looks.now c.args.flights.now s p n c.requires.inside c.in-Due.kind c.in-Due.ensures.reach c.if-flies.ensures))
-    e
-
-pub returns-else-flies-clause-seen : goal.returns-else-flies-clause-seen
-returns-else-flies-clause-seen c s p set e =
-    open_job c.args.keys.now c.args.texts.now c.args.looks.now c.args.flights.now s p c.args.n c.requires.inside c.in-Due.kind (e.sound c.args.n set).1 c.in-Due.ensures.reach c.if-flies.ensures
-
-pub returns-in-Wait-clause-explored : goal.returns-in-Wait-clause-explored
-returns-in-Wait-clause-explored c s p set e =
-    let keys = c.args.keys.now in
+pub returns-in-Wait-clause-falls : goal.returns-in-Wait-clause-falls
+returns-in-Wait-clause-falls c h =
     let n = c.args.n in
     let old = c.args.explored.now in
-    let marks = c.visit-reach.new.marks in
-    let room : n < length old.blocking.items = let a = c.requires.inside in let b = c.requires.room.blocking in search rules in
-    along (λ (ms : List Bool). AreKnown s keys ms c.block.new.self.waiting c.block.new.self.blocking.items) (sym c.block.ensures.marks)
-    (one_more_waits s keys n c.in-Wait.by marks old.waiting c.block.new.self.waiting old.blocking.items c.block.new.self.blocking.items room c.block.ensures.waiting c.block.ensures.blocking
-    (key_waits keys c.args.texts.now c.args.looks.now c.args.flights.now s p n c.requires.inside old.marks marks set c.requires.room.marks c.visit-reach.ensures.marks c.visit-reach.ensures.numbered c.in-Wait.by c.in-Wait.ensures.reach)
-    (key_known keys c.args.texts.now c.args.looks.now c.args.flights.now s p n c.requires.inside old.marks marks set c.requires.room.marks c.visit-reach.ensures.marks c.visit-reach.ensures.numbered old.waiting old.blocking.items e))
+    let e = c.lead.new.explored in
+    let inside : n < length e.piles = let a = c.requires.inside in let b = c.requires.room.piles in let d = c.lead.ensures.len in omega arith in
+    let three : 3 ≤ c.waiters.result = let a = c.waiters.ensures in omega arith in
+    let pushed = push_falls e.piles n c.waiters.result inside three in
+    let led = put_falls e.marks old.piles e.piles c.lead.ensures.len c.lead.ensures.put in
+    along (λ (ps : List ℕ). left_to_see ps ≤ left_to_see old.piles) (sym c.push.ensures) (omega arith)
 
-pub returns-then-flies-clause-explored : goal.returns-then-flies-clause-explored
-returns-then-flies-clause-explored c s p set e =
+pub returns-then-flies-clause-tried : goal.returns-then-flies-clause-tried
+returns-then-flies-clause-tried c s p u x =
+    let keys = c.args.keys.now in
+    let n = c.args.n in
+    let k = key_named keys n in
     let old = c.args.explored.now in
-    key_known c.args.keys.now c.args.texts.now c.args.looks.now c.args.flights.now s p c.args.n c.requires.inside old.marks c.visit-reach.new.marks set c.requires.room.marks c.visit-reach.ensures.marks c.visit-reach.ensures.numbered old.waiting
-    old.blocking.items e
+    let its = plan (record_by c.args.texts.now c.args.looks.now) k in
+    along (λ (ps : List ℕ). IsSearched s keys c.args.flights.now no_hole old.marks ps) (sym c.push-then-flies.ensures)
+    (held_searched keys c.args.texts.now c.args.looks.now c.args.flights.now s p n c.requires.inside u old.marks old.piles c.requires.taken x c.in-Due.kind (c.in-Due.ensures its c.plan_of-plan.ensures) c.if-flies.ensures)
 
-pub returns-else-flies-clause-explored : goal.returns-else-flies-clause-explored
-returns-else-flies-clause-explored c s p set e =
+pub returns-else-flies-clause-tried : goal.returns-else-flies-clause-tried
+returns-else-flies-clause-tried c s p u x =
+    let keys = c.args.keys.now in
+    let n = c.args.n in
+    let k = key_named keys n in
     let old = c.args.explored.now in
-    key_known c.args.keys.now c.args.texts.now c.args.looks.now c.args.flights.now s p c.args.n c.requires.inside old.marks c.visit-reach.new.marks set c.requires.room.marks c.visit-reach.ensures.marks c.visit-reach.ensures.numbered old.waiting
-    old.blocking.items e
+    let its = plan (record_by c.args.texts.now c.args.looks.now) k in
+    let t = open_tried keys c.args.texts.now c.args.looks.now c.args.flights.now s p n c.requires.inside u old.marks old.piles c.requires.taken x c.in-Due.kind (c.in-Due.ensures its c.plan_of-plan.ensures) c.if-flies.ensures in
+    (t.0, along (λ (ps : List ℕ). AreKnown s keys no_hole old.marks ps) (sym c.push-else-flies.ensures) t.1)

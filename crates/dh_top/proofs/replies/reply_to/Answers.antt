@@ -1,9 +1,15 @@
 use Rattle.std.proofs.Common.{refl}
-use Rattle.dh_top.proofs.Encodings.{made_by_words, made_misused, keeps_itself}
+use Rattle.dh_top.proofs.Encodings.{made_by_words, made_misused, lacks_by_words, lacks_misused, keeps_itself}
 use Rattle.dh_top.proofs.replies.reply_to.Goals as goal
 
-pub returns-in-Ok : goal.returns-in-Ok
-returns-in-Ok g c = made_by_words _ c.in-Ok.command _ c.perform.result c.in-Ok.ensures c.perform.ensures
+pub returns-in-Ok-clause-made : goal.returns-in-Ok-clause-made
+returns-in-Ok-clause-made g c = made_by_words _ c.in-Ok.command _ _ c.perform.result c.in-Ok.ensures c.perform.ensures.performs
 
-pub returns-in-Err : goal.returns-in-Err
-returns-in-Err g c = made_misused _ c.in-Err.k _ c.misuse.result c.in-Err.ensures (keeps_itself _) refl c.misuse.ensures
+pub returns-in-Ok-clause-lacks : goal.returns-in-Ok-clause-lacks
+returns-in-Ok-clause-lacks g c = lacks_by_words _ c.in-Ok.command _ _ c.perform.result c.in-Ok.ensures c.perform.ensures.lacks
+
+pub returns-in-Err-clause-made : goal.returns-in-Err-clause-made
+returns-in-Err-clause-made g c = made_misused _ c.in-Err.k _ _ c.misuse.result c.in-Err.ensures (keeps_itself _) refl (refl, refl) c.misuse.ensures
+
+pub returns-in-Err-clause-lacks : goal.returns-in-Err-clause-lacks
+returns-in-Err-clause-lacks g c = lacks_misused _ _ _ c.misuse.result (refl, refl)

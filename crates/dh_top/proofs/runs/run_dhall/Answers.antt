@@ -1,15 +1,17 @@
-use Rattle.dh_top.proofs.RunLaws.{ran_reply, completes}
+use Rattle.std.proofs.Common.{refl}
+use Rattle.dh_top.proofs.RunLaws.{ran_reply, ran_desk, ran_lacking}
 use Rattle.dh_top.proofs.runs.run_dhall.Goals as goal
+
+pub reply_to-requires-clause-some : goal.reply_to-requires-clause-some
+reply_to-requires-clause-some g c = λ κs within. c.requires.some
 
 pub returns-in-Ok-clause-runs : goal.returns-in-Ok-clause-runs
 returns-in-Ok-clause-runs g c =
-    ran_reply _ _ _ _ c.reply_to.result c.in-Ok.reply c.deref.result.now c.deref-in-Ok.result.now c.deliver.result c.in-Ok.is c.reply_to.ensures c.deref.ensures.value
+    ran_reply _ _ _ _ _ c.reply_to.result c.in-Ok.reply c.deref.result.now c.deref-in-Ok.result.now c.deliver.result c.in-Ok.is c.reply_to.ensures.made c.deref.ensures.value
     c.deref-in-Ok.ensures.value c.deliver.ensures
 
-pub returns-in-Ok-clause-completes : goal.returns-in-Ok-clause-completes
-returns-in-Ok-clause-completes g c =
-    completes _ (g.I.Feed.left c.args.input.now) (g.I.Feed.left c.reply_to.new.input) (g.I.Feed.faults c.args.input.now) (g.I.Feed.faults c.reply_to.new.input) _ _ c.deliver.result
-    (
-    ran_reply _ _ _ _ c.reply_to.result c.in-Ok.reply c.deref.result.now c.deref-in-Ok.result.now c.deliver.result c.in-Ok.is c.reply_to.ensures c.deref.ensures.value
-    c.deref-in-Ok.ensures.value c.deliver.ensures
-    )
+pub returns-in-Ok-clause-desk_only : goal.returns-in-Ok-clause-desk_only
+returns-in-Ok-clause-desk_only g c = ran_desk _ _ _ _ _ c.reply_to.result c.in-Ok.reply c.deref.result.now c.deref-in-Ok.result.now c.deliver.result c.in-Ok.is c.reply_to.ensures.made c.deliver.ensures
+
+pub returns-in-Err-clause-runs : goal.returns-in-Err-clause-runs
+returns-in-Err-clause-runs g c = ran_lacking _ _ _ _ _ c.reply_to.result _ _ _ c.deliver-in-Err.result c.in-Err.is c.reply_to.ensures.lacks refl refl c.deliver-in-Err.ensures

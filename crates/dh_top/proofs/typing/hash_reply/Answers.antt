@@ -1,7 +1,7 @@
 use Rattle.std.proofs.Common.{refl, subst, IfOk}
 use Rattle.dh_syntax.specs.Expressions.Bridge.{term}
-use Rattle.dh_top.proofs.Encodings.{digest_printed, form_limited}
 use Rattle.dh_top.proofs.Forms.{form_indices}
+use Rattle.dh_top.proofs.TypedReplies.{digest_printed, form_limited}
 use Rattle.dh_top.proofs.typing.hash_reply.Goals as goal
 
 pub digest-requires-clause-indices : goal.digest-requires-clause-indices

@@ -1,6 +1,6 @@
 use Rattle.std.proofs.Common.{refl}
 use Rattle.dh_syntax.specs.Expressions.Bridge.{term}
-use Rattle.dh_top.proofs.Encodings.{form_printed, form_limited}
+use Rattle.dh_top.proofs.TypedReplies.{form_printed, form_limited}
 use Rattle.dh_top.proofs.typing.normal_reply.Goals as goal
 
 pub returns-in-Ok : goal.returns-in-Ok

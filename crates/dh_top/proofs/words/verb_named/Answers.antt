@@ -1,14 +1,31 @@
-use Rattle.std.proofs.Common.{◌≡◌, ◌∙◌, ap, true, codes}
+use Rattle.std.proofs.Common.{◌≡◌, ◌∙◌, ap, sym, true, true≢false, codes}
 use lib.Dec.{eqb}
 use lib.Pointwise.{pointwise}
 use Rattle.dh_top.proofs.Commands.{verb_of-none}
 use Rattle.dh_top.proofs.words.verb_named.Goals as goal
 
-pub returns-else-eq-5 : goal.returns-else-eq-5
-returns-else-eq-5 c =
-    verb_of-none c.args.word.now (λ e. let equal : c.eq.result ≡ true = c.eq.ensures ∙ ap (λ w. pointwise eqb w (codes "encode")) e in
-    cc) (λ e. let equal : c.eq-else-eq.result ≡ true = c.eq-else-eq.ensures ∙ ap (λ w. pointwise eqb w (codes "decode")) e in
-    cc) (λ e. let equal : c.eq-else-eq-2.result ≡ true = c.eq-else-eq-2.ensures ∙ ap (λ w. pointwise eqb w (codes "type")) e in
-    cc) (λ e. let equal : c.eq-else-eq-3.result ≡ true = c.eq-else-eq-3.ensures ∙ ap (λ w. pointwise eqb w (codes "normalize")) e in
-    cc) (λ e. let equal : c.eq-else-eq-4.result ≡ true = c.eq-else-eq-4.ensures ∙ ap (λ w. pointwise eqb w (codes "hash")) e in
-    cc)
+pub returns-else-eq-11 : goal.returns-else-eq-11
+returns-else-eq-11 c =
+    verb_of-none c.args.word.now
+    (λ e. let equal : c.eq.result ≡ true = c.eq.ensures ∙ ap (λ w. pointwise eqb w (codes "encode")) e in
+    true≢false (sym equal ∙ c.if-eq.false))
+    (λ e. let equal : c.eq-else-eq.result ≡ true = c.eq-else-eq.ensures ∙ ap (λ w. pointwise eqb w (codes "decode")) e in
+    true≢false (sym equal ∙ c.if-eq-2.false))
+    (λ e. let equal : c.eq-else-eq-2.result ≡ true = c.eq-else-eq-2.ensures ∙ ap (λ w. pointwise eqb w (codes "resolve")) e in
+    true≢false (sym equal ∙ c.if-eq-3.false))
+    (λ e. let equal : c.eq-else-eq-3.result ≡ true = c.eq-else-eq-3.ensures ∙ ap (λ w. pointwise eqb w (codes "type")) e in
+    true≢false (sym equal ∙ c.if-eq-4.false))
+    (λ e. let equal : c.eq-else-eq-4.result ≡ true = c.eq-else-eq-4.ensures ∙ ap (λ w. pointwise eqb w (codes "normalize")) e in
+    true≢false (sym equal ∙ c.if-eq-5.false))
+    (λ e. let equal : c.eq-else-eq-5.result ≡ true = c.eq-else-eq-5.ensures ∙ ap (λ w. pointwise eqb w (codes "hash")) e in
+    true≢false (sym equal ∙ c.if-eq-6.false))
+    (λ e. let equal : c.eq-else-eq-6.result ≡ true = c.eq-else-eq-6.ensures ∙ ap (λ w. pointwise eqb w (codes "freeze")) e in
+    true≢false (sym equal ∙ c.if-eq-7.false))
+    (λ e. let equal : c.eq-else-eq-7.result ≡ true = c.eq-else-eq-7.ensures ∙ ap (λ w. pointwise eqb w (codes "help")) e in
+    true≢false (sym equal ∙ c.if-eq-8.false))
+    (λ e. let equal : c.eq-else-eq-8.result ≡ true = c.eq-else-eq-8.ensures ∙ ap (λ w. pointwise eqb w (codes "--help")) e in
+    true≢false (sym equal ∙ c.if-eq-9.false))
+    (λ e. let equal : c.eq-else-eq-9.result ≡ true = c.eq-else-eq-9.ensures ∙ ap (λ w. pointwise eqb w (codes "-h")) e in
+    true≢false (sym equal ∙ c.if-eq-10.false))
+    (λ e. let equal : c.eq-else-eq-10.result ≡ true = c.eq-else-eq-10.ensures ∙ ap (λ w. pointwise eqb w (codes "--version")) e in
+    true≢false (sym equal ∙ c.if-eq-11.false))

@@ -10,7 +10,6 @@ invariant_of-self g c =
     let t = c.self.inside in
     let inv = c.self.invariant in
     let stands : Stands t.keys t.texts.items t.looks.items t.flights.items (state_of (view_of {W = g.row.W.Denot} t)) = record { texts_are = refl; looks_are = refl; asks = inv.asks; flights_are = refl } in
-    let seen : length c.find_open.new.seen ≡ length t.scratch.seen = c.find_open.ensures.seen in
     record {
       replays = inv.replays;
       flights_named = inv.flights_named;
@@ -22,7 +21,7 @@ invariant_of-self g c =
       asks = inv.asks;
       known = inv.known;
       fit = inv.fit;
-      scratch = record { explored = c.find_open.ensures.room; seen = along (λ m. length t.keys ≤ m) (sym seen) inv.scratch.seen; trail = along (λ m. m ≤ vec_capacity t.scratch.trail) (sym seen) inv.scratch.trail };
+      scratch = record { explored = c.find_open.ensures.room; seen = inv.scratch.seen; trail = inv.scratch.trail };
       explored = (rw (c.of.ensures, c.of-2.ensures, c.as_slice.ensures.value, c.as_slice-2.ensures.value, c.as_slice-3.ensures.value) at c.find_open.ensures.knows) (state_of (view_of {W = g.row.W.Denot} t)) refl stands inv.explored;
       texts_told = inv.texts_told;
       looks_shelved = inv.looks_shelved;

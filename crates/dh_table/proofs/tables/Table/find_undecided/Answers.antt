@@ -1,12 +1,9 @@
 use Rattle.std.proofs.Common.{ap, sym, ◌∙◌, subst as along}
-use Rattle.std.specs.Prelude.{◌≡◌, false, Option, Some, None, IsSome, is_some}
+use Rattle.std.specs.Prelude.{◌≡◌, false, IsSome, is_some}
 use Rattle.std.proofs.lemmas.Bool.{false≢true}
-use Rattle.dh_syntax.specs.Imports.Machine.{State, Task, IsOpen}
 use Rattle.dh_syntax.specs.Imports.Replay.{has_too_many, root_end}
-use Rattle.dh_table.specs.declared.steps.Job.{Job}
-use Rattle.dh_table.specs.Inside.Searching.{IsFound, IsJob}
 use Rattle.dh_table.specs.Shown.{Shown}
-use Rattle.dh_table.specs.States.{state_of, task_of}
+use Rattle.dh_table.specs.States.{state_of}
 use Rattle.dh_table.specs.Tables.{view_of}
 use Rattle.dh_table.proofs.Beginnings.{above, not_above}
 use Rattle.dh_table.proofs.Known.{found_undecided}

@@ -56,7 +56,7 @@ invariant_of-self g c =
       asks = ap outcome_of state_is ∙ asks_after (state_of v) keys n o inside d inv.asks ∙ ap (λ es. ask_of (rows_of es)) (sym keys_is);
       known = along (λ es. IsKnown t.root es t.texts.items) (sym keys_is) (decided_known keys n o inside d t.root t.texts.items inv.known);
       fit = along (λ es. AreFit es t.flights.items) (sym keys_is) (fit_decided keys n o t.flights.items inside d tt inv.fit);
-      scratch = let r = along (λ m. IsRoomy m t.scratch) (sym sizes) inv.scratch in record { explored = record { marks = r.explored.marks; waiting = r.explored.waiting; blocking = r.explored.blocking }; seen = r.seen; trail = r.trail };
+      scratch = let r = along (λ m. IsRoomy m t.scratch) (sym sizes) inv.scratch in record { explored = record { marks = r.explored.marks; piles = r.explored.piles }; seen = r.seen; trail = r.trail };
       explored = λ h. absurd (false≢true h);
       texts_told = inv.texts_told;
       looks_shelved = inv.looks_shelved;

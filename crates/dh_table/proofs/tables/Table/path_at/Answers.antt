@@ -1,5 +1,4 @@
-use Rattle.std.proofs.Common.{rules, ◌≡◌, ◌∙◌, Some, None, Ok, map, reverse, sym, ap, subst as along}
-use Rattle.dh_syntax.specs.declared.locations.Mode.TheVariants as modes
+use Rattle.std.proofs.Common.{rules, ◌≡◌, ◌∙◌, Some, Ok, map, reverse, sym, ap, subst as along}
 use Rattle.dh_syntax.specs.Expressions.Bridge.{term}
 use Rattle.dh_syntax.specs.Expressions.SameTree.{loc_eq}
 use Rattle.dh_syntax.specs.Imports.Machine.{outcome_of}

@@ -1,0 +1,146 @@
+-- What a run found by its desks.
+use Rattle.std.proofs.Common.{◌≡◌, ◌⊎◌, inl, inr, ℕ, zero, suc, ◌+◌, ◌-◌, ◌^◌, ◌≤◌, ◌<◌, List, [], ◌∷◌, ◌++◌, map, reverse, Option, Some, None, IfSome, Result, Ok, Err, refl, sym, ap, ◌∙◌, subst, arith}
+use Rattle.std.specs.Prelude.{All, Any, count_by, sum_by}
+use Rattle.std.proofs.lemmas.List.Elements.{All-head, All-tail}
+use Rattle.std.proofs.lemmas.List.Sums.{sum_by-cons}
+use Rattle.dh_syntax.specs.declared.faults.ParseFault.{ParseFault}
+use Rattle.dh_syntax.specs.declared.locations.Digest.{Digest}
+use Rattle.dh_syntax.specs.declared.locations.Key.{Key}
+use Rattle.dh_syntax.specs.declared.locations.Loc.{Loc}
+use Rattle.dh_syntax.specs.declared.outcomes.Why.{Why}
+use Rattle.dh_syntax.specs.Expressions.SameTree.{digest_eq, loc_eq}
+use Rattle.dh_syntax.specs.Expressions.Tree.{Term}
+use Rattle.dh_syntax.specs.Imports.LastStep.{Code, own}
+use Rattle.dh_syntax.specs.Imports.Machine.{IsAmong, State, after_all, outcome_of, stage_of}
+use Rattle.dh_syntax.specs.Imports.Outcomes.{Outcome}
+use Rattle.dh_syntax.specs.Imports.Readings.{AreOutcomes}
+use Rattle.dh_syntax.specs.Imports.Records as found
+use Rattle.dh_syntax.specs.Imports.Records.{Noted, Seen, IsGood, IsLimitOf, text_at, look_at, limit_at}
+use Rattle.dh_syntax.specs.Imports.Resolver.{Has, Resolves}
+use Rattle.dh_syntax.specs.Text.Spelling.{ParsesTo}
+use Rattle.dh_import_laws.proofs.Facts.{texts_are_parsed, entries_are_good, limits_are_licensed}
+use Rattle.dh_import_laws.proofs.Laws.{outcomes_are_resolved}
+use Rattle.dh_import_laws.proofs.OnceRecorded.{texts_are_recorded_once, looks_are_recorded_once}
+use Rattle.dh_ports.specs.Desks.{Tells, shown}
+use Rattle.dh_ports.specs.declared.worlds.Got.{Got}
+use Rattle.dh_ports.specs.declared.worlds.Got.TheVariants as gots
+use Rattle.dh_table.proofs.Logs.{reverse-cons}
+use Rattle.dh_table.specs.declared.entries.Seen as program_seen
+use Rattle.dh_table.specs.declared.entries.Seen.TheVariants as seens
+use Rattle.dh_table.specs.declared.news.Noted as program
+use Rattle.dh_table.specs.declared.news.Noted.TheVariants as noteds
+use Rattle.dh_table.specs.declared.texts.Look.{Look}
+use Rattle.dh_table.specs.declared.texts.Text.{Text}
+use Rattle.dh_table.specs.Brought.{IsTold, IsShelved, AreTold, AreShelved}
+use Rattle.dh_table.specs.Calls.{failures}
+use Rattle.dh_table.specs.Shown.{Shown}
+use Rattle.dh_table.specs.States.{IsReplayed, noted_by, scanned, seen_by, text_of, look_of, record_of, state_of}
+use Rattle.dh_session.specs.Ended.{FailsAll, NoneFell, none_left, more_left}
+use Rattle.dh_session.specs.Works.{AtLast}
+use Rattle.dh_top.specs.Outside.{Outside, Pair, outside, got_of, IsTextTold, IsSeenOf, IsLookTold, IsLimitLicensed, IsFound, total}
+
+-- ---- what is recorded is what was told
+
+among_append : {A : Type 0} (xs ys : List A) (y : A) → IsAmong y (xs ++ ys) → IsAmong y xs ⊎ IsAmong y ys
+among_append [] ys y m = inr m
+among_append (x ∷ xs) ys y (inl e) = inl (inl e)
+among_append (x ∷ xs) ys y (inr m) = under (among_append xs ys y m)
+  where
+    under : IsAmong y xs ⊎ IsAmong y ys → IsAmong y (x ∷ xs) ⊎ IsAmong y ys
+    under (inl h) = inl (inr h)
+    under (inr h) = inr h
+
+one_more : {A B : Type 0} (f : A → B) (Q : B → Type 0) (x : A) (y : B) (before : List B) → Q (f x) → (IsAmong y before → Q y) → IsAmong y before ⊎ IsAmong y (f x ∷ []) → Q y
+one_more f Q x y before q rest (inl m) = rest m
+one_more f Q x y before q rest (inr (inl e)) = subst Q e q
+one_more f Q x y before q rest (inr (inr m)) = absurd m
+
+all_recorded : {A B : Type 0} (f : A → B) (P : A → Type 0) (Q : B → Type 0) → ((a : A) → P a → Q (f a)) → (xs : List A) → All P xs → (y : B) → IsAmong y (reverse (map f xs)) → Q y
+all_recorded f P Q h [] all y m = absurd m
+all_recorded f P Q h (x ∷ xs) all y m =
+    one_more f Q x y (reverse (map f xs)) (h x (All-head P x xs all)) (all_recorded f P Q h xs (All-tail P x xs all) y) (among_append (reverse (map f xs)) (f x ∷ []) y (subst (IsAmong y) (reverse-cons f x xs) m))
+
+noted_told : (told : Option Got) (got : program.Noted) (read : Option (Result Term ParseFault)) → IsTold told got → IfSome (got_of (noted_by got read)) (Tells told)
+noted_told told (noteds.Got (gots.Found f)) (Some p) h = h
+noted_told told (noteds.Got (gots.Found f)) None h = tt
+noted_told told (noteds.Got gots.Absent) read h = h
+noted_told told (noteds.Got (gots.Broken n)) read h = h
+noted_told told noteds.Failed read h = tt
+
+seen_told : (d : Digest) (entry : Option (Option (List ℕ))) (look : program_seen.Seen) → IsShelved d entry look → IfSome entry (λ e. IsSeenOf d (shown e) (seen_by look))
+seen_told d None look h = tt
+seen_told d (Some e) (seens.Good g) h = h
+seen_told d (Some e) seens.Miss h = h
+seen_told d (Some e) seens.Failed h = tt
+
+-- ---- counts of faults
+
+total_map : {D : Type 0} (f : D → ℕ) (ds : List D) → total (map f ds) ≡ sum_by f ds
+total_map f [] = refl
+total_map f (d ∷ ds) = sum_by-cons (λ n. n) (f d) (map f ds) ∙ (ap (λ n. f d + n) (total_map f ds) ∙ sym (sum_by-cons f d ds))
+
+last_map : {D : Type 0} (f : D → ℕ) (ds : List D) → Any (λ d. AtLast (f d)) ds → Any AtLast (map f ds)
+last_map f [] (i, x, lt, is, p) = absurd (omega (arith, lt))
+last_map f (d ∷ ds) (zero, x, lt, is, p) = (0, f d, omega arith, refl, subst (λ y. AtLast (f y)) (sym is) p)
+last_map f (d ∷ ds) (suc i, x, lt, is, p) =
+    let r = last_map f ds (i, x, (omega (arith, lt)), is, p) in (suc r.0, r.1, (let l = r.2 in omega arith), r.3, r.4)
+
+pub none_fell_itself : (ns : List ℕ) → NoneFell ns ns
+none_fell_itself [] = none_left
+none_fell_itself (n ∷ ns) = more_left (omega arith) (none_fell_itself ns)
+
+-- where no count fell, the sum did not
+rise_total : {ms ns : List ℕ} → NoneFell ms ns → total ms ≤ total ns
+rise_total none_left = omega arith
+rise_total (more_left {m = m} {n = n} {ms = ms} {ns = ns} h r) =
+    let t = rise_total r in omega (arith, h, t, sum_by-cons (λ n. n) m ms, sum_by-cons (λ n. n) n ns)
+
+rise_last : {ms ns : List ℕ} → NoneFell ms ns → Any AtLast ms → Any AtLast ns
+rise_last none_left h = h
+rise_last (more_left {n = n} up r) (zero, x, lt, is, p) = (0, n, omega arith, refl, omega (arith, up, is, p))
+rise_last (more_left {n = n} up r) (suc i, x, lt, is, p) =
+    let t = rise_last r (i, x, (omega (arith, lt)), is, p) in (suc t.0, t.1, (let l = t.2 in omega arith), t.3, t.4)
+
+fails_on : (n : ℕ) (b m a : List ℕ) → NoneFell m a → Any AtLast m ⊎ (n + total b ≤ total m) → Any AtLast a ⊎ (n + total b ≤ total a)
+fails_on n b m a r (inl h) = inl (rise_last r h)
+fails_on n b m a r (inr h) = inr (let t = rise_total r in omega (arith, h, t))
+
+mapped : {D : Type 0} (faults : D → ℕ) (n : ℕ) (before mid : List D) → Any (λ d. AtLast (faults d)) mid ⊎ (n + sum_by faults before ≤ sum_by faults mid)
+    → Any AtLast (map faults mid) ⊎ (n + total (map faults before) ≤ total (map faults mid))
+mapped faults n before mid (inl h) = inl (last_map faults mid h)
+mapped faults n before mid (inr h) = inr (let b = total_map faults before in let m = total_map faults mid in omega (arith, h, b, m))
+
+-- ---- the record of a closed table
+
+-- the limit of a key in a state
+abbrev LimitAt : State → Key → Why → Type 0
+LimitAt s k w = (e : Term) × (allow : Option (List ℕ)) × (stage_of s k ≡ Has (Code e allow)) × IsLimitOf e w × (outcome_of s k ≡ Some (own k w))
+
+licensed_at : (s : State) (k : Key) (w : Why) → AreOutcomes s.recorded (outcome_of s) → LimitAt s k w → IsLimitLicensed s.recorded k w
+licensed_at s k w asks (e, allow, due, licensed, known) = record { ask = outcome_of s; asks = asks; code = e; allow = allow; due = due; licensed = licensed }
+
+pub found_by : (told : Loc → Option Got) (shelved : Digest → Option (Option (List ℕ))) {D : Type 0} (faults : D → ℕ) (filed : D → Option (List Pair)) (before mid after : List D) (t : Shown)
+    → AreTold told t.texts → AreShelved shelved t.looks → IsReplayed t → FailsAll faults before mid t → NoneFell (map faults mid) (map faults after)
+    → IsFound (outside told shelved faults filed before after) (record_of t)
+found_by told shelved faults filed before mid after t texts looks r fails rise = record {
+  one_text = λ l. subst (λ s. count_by (λ (x : Loc × Noted). loc_eq x.0 l) s.recorded.texts ≤ 1) r.state_is (texts_are_recorded_once (state_of t).root r.events l r.lawful);
+  one_look = λ d. subst (λ s. count_by (λ (x : Digest × Seen). digest_eq x.0 d) s.recorded.looks ≤ 1) r.state_is (looks_are_recorded_once (state_of t).root r.events d r.lawful);
+  texts = all_recorded text_of (λ (x : Text). IsTold (told x.loc) x.got) (IsTextTold o) (λ x h. noted_told (told x.loc) x.got (scanned x.read) h) t.texts texts;
+  looks = all_recorded look_of (λ (x : Look). IsShelved x.digest (shelved x.digest) x.look) (IsLookTold o) (λ x h. seen_told x.digest (shelved x.digest) x.look h) t.looks looks;
+  parsed = λ l bytes allow p h.
+      texts_are_parsed (state_of t).root r.events l (found.Found bytes allow p) r.lawful (subst (λ s. text_at s.recorded l ≡ Some (found.Found bytes allow p)) (sym r.state_is) h);
+  good = λ d look h. entries_are_good (state_of t).root r.events d look r.lawful (subst (λ s. look_at s.recorded d ≡ Some look) (sym r.state_is) h);
+  limits = λ k w h. limit_of_key k w (limits_are_licensed (state_of t).root r.events k w r.lawful (subst (λ s. limit_at s.recorded k ≡ Some w) (sym r.state_is) h));
+  faults = fails_on (failures (state_of t)) (map faults before) (map faults mid) (map faults after) rise (mapped faults (failures (state_of t)) before mid fails);
+}
+  where
+    o : Outside
+    o = outside told shelved faults filed before after
+
+    resolved : (k : Key) (x : Outcome) → outcome_of (state_of t) k ≡ Some x → Resolves (record_of t) k x
+    resolved k x h =
+        subst (λ s. Resolves s.recorded k x) r.state_is
+        (outcomes_are_resolved (state_of t).root r.events k x r.lawful (subst (λ s. outcome_of s k ≡ Some x) (sym r.state_is) h))
+
+    limit_of_key : (k : Key) (w : Why) → LimitAt (after_all (state_of t).root r.events) k w → IsLimitLicensed (record_of t) k w
+    limit_of_key k w l = licensed_at (state_of t) k w resolved (subst (λ s. LimitAt s k w) r.state_is l)

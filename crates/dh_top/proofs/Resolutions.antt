@@ -1,0 +1,254 @@
+-- Replies of the commands that resolve imports.
+use Rattle.std.proofs.Common.{◌≡◌, ◌⊎◌, inl, inr, ℕ, ◌+◌, ◌≤◌, ◌<◌, List, [], ◌∷◌, ◌++◌, map, length, Option, Some, None, Result, Ok, Err, IfOk, IfSome, Bool, true, false, true≢false, refl, sym, ap, ◌∙◌, subst, arith}
+use Rattle.std.specs.Prelude.{IsTrue, OnOk, OnErr, option_map}
+use Rattle.std.specs.declared.alloc.AllocError.{AllocError}
+use Rattle.dh_syntax.specs.declared.faults.Ill.{Ill}
+use Rattle.dh_syntax.specs.declared.faults.ParseFault.{ParseFault}
+use Rattle.dh_syntax.specs.declared.faults.TypeFault.{TypeFault}
+use Rattle.dh_syntax.specs.declared.faults.TypeFault.TheVariants as type_faults
+use Rattle.dh_syntax.specs.declared.locations.Digest.{Digest}
+use Rattle.dh_syntax.specs.declared.locations.Key.{Key}
+use Rattle.dh_syntax.specs.declared.locations.Loc.{Loc}
+use Rattle.dh_syntax.specs.declared.outcomes.Blame.{Blame}
+use Rattle.dh_syntax.specs.declared.outcomes.Why.{Why}
+use Rattle.dh_syntax.specs.declared.outcomes.Why.TheVariants as whys
+use Rattle.dh_syntax.specs.declared.statuses.Status.TheVariants as status
+use Rattle.dh_syntax.specs.declared.verbs.Verb.{Verb}
+use Rattle.dh_syntax.specs.Command.Answer.{Response, Does, ResolvedAnswer, FaultAnswer, IsIllLine, at_fault, why_alone, with_place, overfull, spells, spells_none, fault, misspelt, too_many_keys}
+use Rattle.dh_syntax.specs.Command.ImportFaults.{ill_of, in_item, why_line, why_status}
+use Rattle.dh_syntax.specs.Command.Words.{resolves as does_resolve}
+use Rattle.dh_syntax.specs.Expressions.Tree.{Term}
+use Rattle.dh_syntax.specs.Imports.Machine.{opening, outcome_of, root_walk}
+use Rattle.dh_syntax.specs.Imports.Readings.{Reading}
+use Rattle.dh_syntax.specs.Imports.Records as found
+use Rattle.dh_syntax.specs.Imports.Records.{Record, Found, text_at}
+use Rattle.dh_syntax.specs.Imports.Replay.{RootEnd, ready, bad, looped, too_many, has_too_many, root_end}
+use Rattle.dh_syntax.specs.Imports.RootEnds.{EndsBy, overflows}
+use Rattle.dh_syntax.specs.Imports.TextPaths.{text_path}
+use Rattle.dh_syntax.specs.Imports.Walk.{Ask, Fails}
+use Rattle.dh_syntax.specs.Text.Spelling.{ParsesTo}
+use Rattle.dh_laws.proofs.KeyOrder.{none-some, some-equal}
+use Rattle.dh_import_laws.proofs.Facts.{texts_are_parsed}
+use Rattle.dh_import_laws.proofs.FailedTexts.{root_failures_are_recorded}
+use Rattle.dh_import_laws.proofs.ByLocation.{paths_by_location}
+use Rattle.dh_import_laws.specs.Blames.{StandsIn}
+use Rattle.dh_demand.specs.Scans.{text_key}
+use Rattle.dh_ports.specs.declared.mem_desks.CacheEntry.{CacheEntry}
+use Rattle.dh_ports.specs.declared.worlds.Got.{Got}
+use Rattle.dh_table.specs.declared.roots.Ended.{Ended}
+use Rattle.dh_table.specs.Brought.{AreTold, AreShelved}
+use Rattle.dh_table.specs.Kept.{IsKeeping, pair_of}
+use Rattle.dh_table.specs.Shown.{Shown}
+use Rattle.dh_table.specs.States.{IsReplayed, record_of, state_of}
+use Rattle.dh_session.specs.Ended.{FailsAll, NoneFell, none_left, more_left}
+use Rattle.dh_session.specs.Works.{AtLast}
+use Rattle.dh_top.specs.declared.replies.Reply.{Reply}
+use Rattle.dh_top.specs.Outside.{Outside, Pair, outside, first_of, AtFirst, at_first, FilesAll, FilesSome, Finds, finds, leaves, FilesPart, files_none, files_some, IsFound, KeepsBy, failures, nothing_found}
+use Rattle.dh_top.specs.Replies.{written, Answers, IsClosed, TellsPlace}
+use Rattle.dh_top.proofs.Closing.{WalkedTo, walked}
+use Rattle.dh_top.proofs.Devices.{failed_found, other_statuses, resolved_device}
+use Rattle.dh_top.proofs.RunLaws.{one_root_end}
+use Rattle.dh_top.proofs.Finding.{none_fell_itself, found_by}
+use Rattle.dh_top.proofs.TypedReplies.{line_told}
+
+-- ---- a fault that decides
+
+-- a fault that is no place without a type
+pub told_alone : (r : Result Reply AllocError) (rec : Record) (b : Blame) (at : Option Key) → at ≡ b.at → ill_of b.why ≡ None
+    → IfOk r (λ x. written x ≡ fault (in_item at (why_line b.why)) (why_status b.why)) → IfOk r (λ x. FaultAnswer rec b (written x))
+told_alone (Ok x) rec b at same none w =
+    at_fault (in_item b.at (why_line b.why)) (why_alone none refl) (w ∙ ap (λ a. fault (in_item a (why_line b.why)) (why_status b.why)) same)
+told_alone (Err e) rec b at same none w = tt
+
+ill_status : (w : Why) (f : Ill) → ill_of w ≡ Some f → why_status w ≡ status.Ill
+ill_status (whys.Typing (type_faults.Ill g)) f h = refl
+ill_status (whys.Typing type_faults.Wide) f h = none-some refl h
+ill_status (whys.Typing type_faults.Spent) f h = none-some refl h
+ill_status (whys.Typing type_faults.Deep) f h = none-some refl h
+ill_status (whys.Typing type_faults.Memory) f h = none-some refl h
+ill_status (whys.Parse g) f h = none-some refl h
+ill_status (whys.Norm g) f h = none-some refl h
+ill_status whys.Absent f h = none-some refl h
+ill_status whys.Missing f h = none-some refl h
+ill_status (whys.Broken n) f h = none-some refl h
+ill_status whys.Https f h = none-some refl h
+ill_status whys.Failed f h = none-some refl h
+ill_status (whys.Differs a b) f h = none-some refl h
+ill_status (whys.Insane l) f h = none-some refl h
+ill_status (whys.Cors l) f h = none-some refl h
+ill_status whys.Cycle f h = none-some refl h
+ill_status whys.TooMany f h = none-some refl h
+
+-- the text in which a fault stands is found at the location of its key, and spells an expression
+pub stands_found : (t : Shown) (b : Blame) (f : Ill) (k : Key) → b.at ≡ Some k → (s : StandsIn (record_of t) (outcome_of (state_of t)) b f)
+    → text_at (record_of t) k.loc ≡ Some (Found s.text s.reading.allow (Ok s.spelled))
+stands_found t b f k at s = subst (λ (j : Key). text_at (record_of t) j.loc ≡ Some (Found s.text s.reading.allow (Ok s.spelled))) (some-equal (sym s.reading.is_at ∙ at)) s.reading.found
+
+pub stands_parsed : (t : Shown) (b : Blame) (f : Ill) → IsReplayed t → (s : StandsIn (record_of t) (outcome_of (state_of t)) b f) → ParsesTo s.text (Ok s.spelled)
+stands_parsed t b f r s =
+    texts_are_parsed (state_of t).root r.events s.reading.key.loc (Found s.text s.reading.allow (Ok s.spelled)) r.lawful
+    (subst (λ x. text_at x.recorded s.reading.key.loc ≡ Some (Found s.text s.reading.allow (Ok s.spelled))) (sym r.state_is) s.reading.found)
+
+ill_answer : (rec : Record) (ask : Ask) (b : Blame) (f : Ill) (w : Response) → ill_of b.why ≡ Some f → (s : StandsIn rec ask b f)
+    → (bytes : List ℕ) × IsIllLine (record { at = b.at; text = s.text; spelled = s.spelled; ask = ask }) f bytes × (w ≡ fault bytes status.Ill) → FaultAnswer rec b w
+ill_answer rec ask b f w told s (bytes, l, is) =
+    at_fault bytes (with_place f (record { at = b.at; text = s.text; spelled = s.spelled; ask = ask }) s.value told refl s.reading s.refused l)
+    (is ∙ ap (λ x. fault bytes x) (sym (ill_status b.why f told)))
+
+-- a place without a type, in the text of its key
+pub told_in_text : (r : Result Reply AllocError) (t : Shown) (b : Blame) (f : Ill) (k : Key) (at : Option Key) (text path places : List ℕ) → IsReplayed t → ill_of b.why ≡ Some f
+    → (s : StandsIn (record_of t) (outcome_of (state_of t)) b f) → b.at ≡ Some k → at ≡ Some k → text ≡ s.text → places ≡ f.path
+    → ((bytes : List ℕ) (allow : Option (List ℕ)) (e : Term) → text_at (record_of t) k.loc ≡ Some (Found bytes allow (Ok e)) → path ≡ text_path (text_key (Some k.loc)) (outcome_of (state_of t)) e places)
+    → IfOk r (λ x. (e : Term) → ParsesTo text (Ok e) → TellsPlace at text e path f (written x))
+    → IfOk r (λ x. FaultAnswer (record_of t) b (written x))
+told_in_text (Err e) t b f k at text path places r told s is_at same is_text same_places paths h = tt
+told_in_text (Ok x) t b f k at text path places r told s is_at same is_text same_places paths h =
+    ill_answer (record_of t) ask b f (written x) told s (line_told i f path (written x) here placed)
+  where
+    ask : Ask
+    ask = outcome_of (state_of t)
+
+    i : Reading
+    i = record { at = b.at; text = s.text; spelled = s.spelled; ask = ask }
+
+    here : path ≡ text_path b.at ask s.spelled f.path
+    here =
+        paths s.text s.reading.allow s.spelled (stands_found t b f k is_at s)
+        ∙ (paths_by_location _ k ask s.spelled places refl
+        ∙ (ap (λ p. text_path (Some k) ask s.spelled p) same_places ∙ ap (λ a. text_path a ask s.spelled f.path) (sym is_at)))
+
+    placed : TellsPlace b.at s.text s.spelled path f (written x)
+    placed = subst (λ a. TellsPlace a s.text s.spelled path f (written x)) (same ∙ sym is_at)
+        (subst (λ u. TellsPlace at u s.spelled path f (written x)) is_text (h s.spelled (subst (λ u. ParsesTo u (Ok s.spelled)) (sym is_text) (stands_parsed t b f r s))))
+
+-- ---- what is kept
+
+keeps_at : (t : Shown) (o : Option RootEnd) (e : RootEnd) (pairs : List Pair) → o ≡ Some e → IsKeeping (state_of t) o pairs → KeepsBy (record_of t) (state_of t).root e pairs
+keeps_at t None e pairs is k = none-some refl is
+keeps_at t (Some (ready v)) e pairs is k = subst (λ x. KeepsBy (record_of t) (state_of t).root x pairs) (some-equal is) k
+keeps_at t (Some (bad b)) e pairs is k = subst (λ x. KeepsBy (record_of t) (state_of t).root x pairs) (some-equal is) k
+keeps_at t (Some (looped j)) e pairs is k = subst (λ x. KeepsBy (record_of t) (state_of t).root x pairs) (some-equal is) k
+keeps_at t (Some too_many) e pairs is k = subst (λ x. KeepsBy (record_of t) (state_of t).root x pairs) (some-equal is) k
+
+keeps_by : (t : Shown) (e : RootEnd) (pairs : List Pair) → root_end (state_of t) ≡ Some e → IsKeeping (state_of t) (root_end (state_of t)) pairs → KeepsBy (record_of t) (state_of t).root e pairs
+keeps_by t e pairs is k = keeps_at t (root_end (state_of t)) e pairs is k
+
+-- ---- what was found and kept by desks
+
+-- the first desk kept these, and the others are as they were
+abbrev pub Keeping : {D : Type 0} → (D → ℕ) → (D → D → Type 0) → List D → List D → Type 0
+Keeping faults P mid after = AtFirst (λ d e. (faults d ≤ faults e) × P d e) mid after
+
+rises : {D : Type 0} (faults : D → ℕ) {P : D → D → Type 0} {mid after : List D} → Keeping faults P mid after → NoneFell (map faults mid) (map faults after)
+rises faults (at_first {ds = ds} h) = more_left h.0 (none_fell_itself (map faults ds))
+
+-- the first counts and what is filed, from the run to the keeping
+more_before : (f g h k : ℕ) (n : ℕ) → f ≤ g → AtLast h ⊎ (n + g ≤ k + h) → AtLast h ⊎ (n + f ≤ k + h)
+more_before f g h k n up (inl l) = inl l
+more_before f g h k n up (inr l) = inr (omega (arith, up, l))
+
+first_fell : (ms ns : List ℕ) → NoneFell ms ns → first_of 0 ms ≤ first_of 0 ns
+first_fell ms ns none_left = omega arith
+first_fell ms ns (more_left h r) = h
+
+all_at_first : {D : Type 0} (faults : D → ℕ) (filed : D → Option (List Pair)) (pairs : List Pair) (before mid after : List D) → NoneFell (map faults before) (map faults mid)
+    → map filed mid ≡ map filed before → Keeping faults (λ d e. FilesAll (faults d) (faults e) (filed d) (filed e) pairs) mid after
+    → FilesAll (first_of 0 (map faults before)) (first_of 0 (map faults after)) (first_of None (map filed before)) (first_of None (map filed after)) pairs
+all_at_first faults filed pairs before mid after fell same (at_first {d = d} {d' = e} h) = record {
+  kept = h.1.kept;
+  files = record {
+    some = h.1.files.some;
+    filed_is = h.1.files.filed_is ∙ ap (λ a. option_map (λ old. old ++ h.1.kept) a) (ap (first_of None) same);
+  };
+  few = more_before (first_of 0 (map faults before)) (faults d) (faults e) (length h.1.kept) (length pairs) (first_fell _ _ fell) h.1.few;
+}
+
+part_at_first : {D : Type 0} (faults : D → ℕ) (filed : D → Option (List Pair)) (pairs : List Pair) (before mid after : List D)
+    → map filed mid ≡ map filed before → Keeping faults (λ d e. (kept : List Pair) × FilesSome (filed d) (filed e) pairs kept) mid after
+    → (kept : List Pair) × FilesSome (first_of None (map filed before)) (first_of None (map filed after)) pairs kept
+part_at_first faults filed pairs before mid after same (at_first {d = d} {d' = e} h) =
+    (h.1.0, record { some = h.1.1.some; filed_is = h.1.1.filed_is ∙ ap (λ a. option_map (λ old. old ++ h.1.0) a) (ap (first_of None) same) })
+
+-- What is known of a run that resolved this root over these desks, before anything is kept.
+pub record IsResolved (told : Loc → Option Got) (shelved : Digest → Option (Option (List ℕ))) {D : Type 0} (faults : D → ℕ) (filed : D → Option (List Pair)) (before mid : List D)
+    (root : Term) (t : Shown) (ended : Ended) (pairs : List Pair) : Type 0 where
+  pub root_is : (state_of t).root ≡ root
+  pub texts : AreTold told t.texts
+  pub looks : AreShelved shelved t.looks
+  pub replayed : IsReplayed t
+  pub fails : FailsAll faults before mid t
+  pub fell : NoneFell (map faults before) (map faults mid)
+  pub filed_is : map filed mid ≡ map filed before
+  pub closed : IsClosed t ended
+  pub keeps : IsKeeping (state_of t) (root_end (state_of t)) pairs
+
+module _ (told : Loc → Option Got) (shelved : Digest → Option (Option (List ℕ))) {D : Type 0} (faults : D → ℕ) (filed : D → Option (List Pair)) (before mid after : List D)
+    (v : Verb) (text : List ℕ) (root : Term) (t : Shown) (ended : Ended) (pairs : List Pair)
+    (s : IsResolved told shelved faults filed before mid root t ended pairs) (takes : IsTrue (does_resolve v)) (spelled : ParsesTo text (Ok root)) where
+  by_root : EndsBy (record_of t) root s.closed.end
+  by_root = subst (λ r. EndsBy (record_of t) r s.closed.end) s.root_is s.closed.by
+
+  kept_by : KeepsBy (record_of t) root s.closed.end pairs
+  kept_by = subst (λ r. KeepsBy (record_of t) r s.closed.end pairs) s.root_is (keeps_by t s.closed.end pairs s.closed.at_end s.keeps)
+
+  found_here : {P : D → D → Type 0} → Keeping faults P mid after → IsFound (outside told shelved faults filed before after) (record_of t)
+  found_here k = found_by told shelved faults filed before mid after t s.texts s.looks s.replayed s.fails (rises faults k)
+
+  failure_found : (b : Blame) → EndsBy (record_of t) (state_of t).root (bad b) → b.why ≡ whys.Failed → 0 < failures (record_of t)
+  failure_found b by failed =
+      let walk : root_walk (state_of t) ≡ Fails b = subst (λ e. WalkedTo e (root_walk (state_of t))) (one_root_end (record_of t) (state_of t).root s.closed.end (bad b) s.closed.by by)
+      (walked (state_of t) s.closed.end s.closed.at_end) in
+      let there = root_failures_are_recorded (state_of t).root s.replayed.events b s.replayed.lawful (subst (λ x. root_walk x ≡ Fails b) (sym s.replayed.state_is) walk) failed in
+      failed_found (record_of t) there.0 (subst (λ x. text_at x.recorded there.0 ≡ Some found.Failed) s.replayed.state_is there.1)
+
+  answered_one : (w : Response) → Keeping faults (λ d e. FilesAll (faults d) (faults e) (filed d) (filed e) pairs) mid after
+      → ResolvedAnswer v text (state_of t).root (record_of t) w → Answers v text (outside told shelved faults filed before after) w
+  answered_one w k a = record {
+    found = record_of t;
+    finds = finds root s.closed.end pairs takes spelled (found_here k) by_root kept_by (all_at_first faults filed pairs before mid after s.fell s.filed_is k);
+    does = spells root takes spelled (subst (λ r. ResolvedAnswer v text r (record_of t) w) s.root_is a);
+    devices = λ d. resolved_device v text (state_of t).root (record_of t) w a d (λ b by failed. failure_found b by failed);
+  }
+
+  part_one : Keeping faults (λ d e. (kept : List Pair) × FilesSome (filed d) (filed e) pairs kept) mid after → FilesPart v text (outside told shelved faults filed before after)
+  part_one k = go (part_at_first faults filed pairs before mid after s.filed_is k)
+    where
+      go : (kept : List Pair) × FilesSome (first_of None (map filed before)) (first_of None (map filed after)) pairs kept → FilesPart v text (outside told shelved faults filed before after)
+      go (kept, files) = files_some root s.closed.end (record_of t) pairs kept takes spelled (found_here k) by_root kept_by files
+
+  pub answered : (r : Result Reply AllocError) → OnOk r (Keeping faults (λ d e. FilesAll (faults d) (faults e) (filed d) (filed e) pairs) mid after)
+      → IfOk r (λ x. ResolvedAnswer v text (state_of t).root (record_of t) (written x)) → IfOk r (λ x. Answers v text (outside told shelved faults filed before after) (written x))
+  answered (Ok x) k a = answered_one (written x) k a
+  answered (Err e) k a = tt
+
+  pub answered_none : (r : Result Reply AllocError) → OnErr r (Keeping faults (λ d e. (kept : List Pair) × FilesSome (filed d) (filed e) pairs kept) mid after)
+      → OnErr r (FilesPart v text (outside told shelved faults filed before after))
+  answered_none (Ok x) k = tt
+  answered_none (Err e) k = part_one k
+
+-- ---- too many keys, and a text that spells nothing
+
+resolves_not : (v : Verb) {P : Type 0} → IsTrue (does_resolve v) → does_resolve v ≡ false → P
+resolves_not v t f = absurd (true≢false (sym t ∙ f))
+
+pub too_many_answered : (r : Result Reply AllocError) (v : Verb) (text : List ℕ) (root : Term) (o : Outside) (at : Option Key) → at ≡ None → IsTrue (does_resolve v) → ParsesTo text (Ok root)
+    → o.filed_after ≡ o.filed_before → has_too_many (opening root) ≡ true → IfOk r (λ x. written x ≡ fault (in_item at (why_line whys.TooMany)) (why_status whys.TooMany))
+    → IfOk r (λ x. Answers v text o (written x))
+too_many_answered (Ok x) v text root o at none takes spelled same many w = record {
+  found = nothing_found;
+  finds = leaves refl same (λ f. resolves_not v takes f);
+  does = spells root takes spelled
+      (overfull (overflows many) (at_fault (why_line whys.TooMany) (why_alone refl refl) (w ∙ ap (λ a. fault (in_item a (why_line whys.TooMany)) (why_status whys.TooMany)) none)));
+  devices = other_statuses (written x) status.Limit (ap (λ w. w.status) w) (λ n. omega (arith, n));
+}
+too_many_answered (Err e) v text root o at none takes spelled same many w = tt
+
+pub misspelt_answered : (r : Result Reply AllocError) (v : Verb) (text : List ℕ) (f : ParseFault) (o : Outside) → IsTrue (does_resolve v) → ParsesTo text (Err f)
+    → o.filed_after ≡ o.filed_before → IfOk r (λ x. written x ≡ misspelt f) → IfOk r (λ x. Answers v text o (written x))
+misspelt_answered (Ok x) v text f o takes p same w = record {
+  found = nothing_found;
+  finds = leaves refl same (λ none. resolves_not v takes none);
+  does = spells_none f takes p w;
+  devices = other_statuses (written x) status.Text (ap (λ w. w.status) w) (λ n. omega (arith, n));
+}
+misspelt_answered (Err e) v text f o takes p same w = tt

@@ -1,0 +1,10 @@
+use Rattle.dh_top.proofs.Filing.{first_set, on_ok_map, on_err_map}
+use Rattle.dh_top.proofs.keeping.keep_at_first.Goals as goal
+
+pub returns-clause-kept : goal.returns-clause-kept
+returns-clause-kept g c =
+    on_ok_map c.keep_all.result (λ k. first_set _ c.args.desks.now c.index-desks-0.result c.keep_all.new.desk c.requires.some (c.keep_all.ensures.counted, k)) c.keep_all.ensures.kept
+
+pub returns-clause-part : goal.returns-clause-part
+returns-clause-part g c =
+    on_err_map c.keep_all.result (λ k. first_set _ c.args.desks.now c.index-desks-0.result c.keep_all.new.desk c.requires.some (c.keep_all.ensures.counted, k)) c.keep_all.ensures.part

@@ -1,0 +1,157 @@
+-- What the desks of a run show, and what the run found and kept by them.
+use Rattle.std.specs.Prelude.{◌≡◌, ◌⊎◌, ℕ, ◌+◌, ◌≤◌, false, List, [], ◌∷◌, ◌++◌, map, length, sum_by, count_by, Any, Option, Some, None, option_map, IfSome, Ok, ⊤}
+use Rattle.std.specs.Prelude.{IsTrue, Result}
+use Rattle.dh_syntax.specs.declared.commands.Command.{Command}
+use Rattle.dh_syntax.specs.declared.faults.ParseFault.{ParseFault}
+use Rattle.dh_syntax.specs.declared.locations.Digest.{Digest}
+use Rattle.dh_syntax.specs.declared.locations.Key.{Key}
+use Rattle.dh_syntax.specs.declared.locations.Loc.{Loc}
+use Rattle.dh_syntax.specs.declared.outcomes.Why.{Why}
+use Rattle.dh_syntax.specs.declared.verbs.Verb.{Verb}
+use Rattle.dh_syntax.specs.Command.Words.{resolves as does_resolve}
+use Rattle.dh_syntax.specs.Expressions.SameTree.{digest_eq, loc_eq}
+use Rattle.dh_syntax.specs.Expressions.Tree.{Term}
+use Rattle.dh_syntax.specs.Imports.Keeps.{AreKeeps}
+use Rattle.dh_syntax.specs.Imports.LastStep.{Code}
+use Rattle.dh_syntax.specs.Imports.Machine.{IsAmong}
+use Rattle.dh_syntax.specs.Imports.Readings.{AreOutcomes}
+use Rattle.dh_syntax.specs.Imports.Records as found
+use Rattle.dh_syntax.specs.Imports.Records.{Record, Noted, Seen, IsGood, IsLimitOf, text_at, look_at, limit_at}
+use Rattle.dh_syntax.specs.Imports.Replay.{RootEnd, ready, bad, looped, too_many}
+use Rattle.dh_syntax.specs.Imports.Resolver.{Has, resolve, stage}
+use Rattle.dh_syntax.specs.Imports.RootEnds.{EndsBy}
+use Rattle.dh_syntax.specs.Imports.Walk.{Ask}
+use Rattle.dh_syntax.specs.Text.Spelling.{ParsesTo}
+use Rattle.dh_ports.specs.Desks.{Tells, shown}
+use Rattle.dh_ports.specs.declared.worlds.Got.{Got}
+use Rattle.dh_ports.specs.declared.worlds.Got.TheVariants as gots
+use Rattle.dh_table.specs.Calls.{has_failed, is_failed}
+use Rattle.dh_session.specs.Works.{AtLast}
+
+-- a digest with the bytes that are kept under it
+abbrev pub Pair : Type 0
+Pair = Digest × List ℕ
+
+-- What the world tells; how many calls of each desk have failed, before and after; and what the first desk has kept, before and after,
+-- where that is told.
+pub record Outside : Type 0 where
+  pub told : Loc → Option Got
+  pub shelved : Digest → Option (Option (List ℕ))
+  pub faults_before : List ℕ
+  pub faults_after : List ℕ
+  pub filed_before : Option (List Pair)
+  pub filed_after : Option (List Pair)
+
+abbrev pub first_of : {A : Type 0} → A → List A → A
+first_of a [] = a
+first_of a (b ∷ bs) = b
+
+-- desks before and after, in a world that tells this
+abbrev pub outside : (Loc → Option Got) → (Digest → Option (Option (List ℕ))) → {D : Type 0} → (D → ℕ) → (D → Option (List Pair)) → List D → List D → Outside
+outside told shelved faults filed before after = record {
+  told = told;
+  shelved = shelved;
+  faults_before = map faults before;
+  faults_after = map faults after;
+  filed_before = first_of None (map filed before);
+  filed_after = first_of None (map filed after);
+}
+
+-- ---- what was found
+
+-- the record where nothing is resolved
+abbrev pub nothing_found : Record
+nothing_found = record { texts = []; looks = []; limits = [] }
+
+-- what a device answered of a text; none where it failed
+abbrev pub got_of : Noted → Option Got
+got_of (found.Found bytes allow parsed) = Some (gots.Found (record { bytes = bytes; allow = allow }))
+got_of found.Absent = Some gots.Absent
+got_of (found.Broken n) = Some (gots.Broken n)
+got_of found.Failed = None
+
+-- a text but a failed one is what the world tells at its location, where that tells
+abbrev pub IsTextTold : Outside → Loc × Noted → Type 0
+IsTextTold o t = IfSome (got_of t.1) (Tells (o.told t.0))
+
+-- what was seen of the entry under a digest, if any: it is good, or the look is a miss
+abbrev pub IsSeenOf : Digest → Option (List ℕ) → Seen → Type 0
+IsSeenOf d entry (found.Good bytes e) = entry ≡ Some bytes
+IsSeenOf d entry found.Miss = (bytes : List ℕ) (e : Term) → entry ≡ Some bytes → ¬ IsGood d (found.Good bytes e)
+IsSeenOf d entry found.Failed = ⊤
+
+-- a look but a failed one is of the entry that the world tells, where that tells; one that is too large is none
+abbrev pub IsLookTold : Outside → Digest × Seen → Type 0
+IsLookTold o l = IfSome (o.shelved l.0) (λ entry. IsSeenOf l.0 (shown entry) l.1)
+
+-- a limit is licensed for the code of its key, with a value for each import by the resolver's outcomes
+pub record IsLimitLicensed (r : Record) (k : Key) (w : Why) : Type 0 where
+  pub ask : Ask
+  pub asks : AreOutcomes r ask
+  pub code : Term
+  pub allow : Option (List ℕ)
+  pub due : stage r ask k ≡ Has (Code code allow)
+  pub licensed : IsLimitOf code w
+
+-- how many texts and looks failed
+abbrev pub failures : Record → ℕ
+failures r = count_by (λ (t : Loc × Noted). has_failed t.1) r.texts + count_by (λ (l : Digest × Seen). is_failed l.1) r.looks
+
+abbrev pub total : List ℕ → ℕ
+total ns = sum_by (λ n. n) ns
+
+-- The run found this by its desks, each text and each look once. Each failure is a fault of a desk, unless a count stands at its last
+-- value.
+pub record IsFound (o : Outside) (r : Record) : Type 0 where
+  pub one_text : (l : Loc) → count_by (λ (t : Loc × Noted). loc_eq t.0 l) r.texts ≤ 1
+  pub one_look : (d : Digest) → count_by (λ (t : Digest × Seen). digest_eq t.0 d) r.looks ≤ 1
+  pub texts : (t : Loc × Noted) → IsAmong t r.texts → IsTextTold o t
+  pub looks : (l : Digest × Seen) → IsAmong l r.looks → IsLookTold o l
+  pub parsed : (l : Loc) (bytes : List ℕ) (allow : Option (List ℕ)) (p : Result Term ParseFault) → text_at r l ≡ Some (found.Found bytes allow p) → ParsesTo bytes p
+  pub good : (d : Digest) (look : Seen) → look_at r d ≡ Some look → IsGood d look
+  pub limits : (k : Key) (w : Why) → limit_at r k ≡ Some w → IsLimitLicensed r k w
+  pub faults : Any AtLast o.faults_after ⊎ (failures r + total o.faults_before ≤ total o.faults_after)
+
+-- ---- what was kept
+
+-- what a run keeps whose root ends so: where it is ready, its entries; else none
+abbrev pub KeepsBy : Record → Term → RootEnd → List Pair → Type 0
+KeepsBy r root (ready e) pairs = (n : ℕ) × AreKeeps r (resolve r n []) root pairs
+KeepsBy r root (bad b) pairs = pairs ≡ []
+KeepsBy r root (looped j) pairs = pairs ≡ []
+KeepsBy r root too_many pairs = pairs ≡ []
+
+-- some of these pairs, in their order
+pub data SomeOf : List Pair → List Pair → Type 0 where
+  none_of : {pairs : List Pair} → SomeOf [] pairs
+  with_this : {p : Pair} {kept pairs : List Pair} → SomeOf kept pairs → SomeOf (p ∷ kept) (p ∷ pairs)
+  without_this : {p : Pair} {kept pairs : List Pair} → SomeOf kept pairs → SomeOf kept (p ∷ pairs)
+
+-- a desk with these pairs kept before and after has kept some of the pairs that it was handed
+pub record FilesSome (filed filed' : Option (List Pair)) (pairs : List Pair) (kept : List Pair) : Type 0 where
+  pub some : SomeOf kept pairs
+  pub filed_is : filed' ≡ option_map (λ old. old ++ kept) filed
+
+-- at most as many are left out as its count of faults rose by, unless that stands at its last value
+pub record FilesAll (faults faults' : ℕ) (filed filed' : Option (List Pair)) (pairs : List Pair) : Type 0 where
+  pub kept : List Pair
+  pub files : FilesSome filed filed' pairs kept
+  pub few : AtLast faults' ⊎ (length pairs + faults ≤ length kept + faults')
+
+-- the first of these is followed by another, the others are as they were
+pub data AtFirst {D : Type 0} (P : D → D → Type 0) : List D → List D → Type 0 where
+  at_first : {d d' : D} {ds : List D} → P d d' → AtFirst P (d ∷ ds) (d' ∷ ds)
+
+-- ---- a run over desks
+
+-- How the record of a command on a text comes about. Where nothing is resolved, it is empty, and nothing is kept.
+pub data Finds (v : Verb) (text : List ℕ) (o : Outside) (r : Record) : Type 0 where
+  finds : (root : Term) (end : RootEnd) (pairs : List Pair) → IsTrue (does_resolve v) → ParsesTo text (Ok root) → IsFound o r → EndsBy r root end → KeepsBy r root end pairs
+      → FilesAll (first_of 0 o.faults_before) (first_of 0 o.faults_after) o.filed_before o.filed_after pairs → Finds v text o r
+  leaves : r ≡ nothing_found → o.filed_after ≡ o.filed_before → (does_resolve v ≡ false → o.faults_after ≡ o.faults_before) → Finds v text o r
+
+-- what the first desk has kept where memory is wanting: nothing, or some of what the run keeps
+pub data FilesPart (v : Verb) (text : List ℕ) (o : Outside) : Type 0 where
+  files_none : o.filed_after ≡ o.filed_before → FilesPart v text o
+  files_some : (root : Term) (end : RootEnd) (r : Record) (pairs kept : List Pair) → IsTrue (does_resolve v) → ParsesTo text (Ok root) → IsFound o r → EndsBy r root end
+      → KeepsBy r root end pairs → FilesSome o.filed_before o.filed_after pairs kept → FilesPart v text o

@@ -1,0 +1,47 @@
+//! What the program tells of itself: the page of help, and its version.
+
+ghost use Rattle.std.specs.Prelude.{◌≡◌, IfOk};
+ghost use Rattle.dh_syntax.specs.Command.Answer.{answer as answer_of};
+ghost use Rattle.dh_syntax.specs.Command.Telling.{help_text, version_text};
+ghost use Rattle.dh_top.specs.Replies.{written};
+
+use crate::replies::Reply;
+use std::alloc::{AllocError, Global};
+
+/// The commands with what they do, and the exit statuses, a line each.
+pub(crate) fn help(alloc: Global) -> Result<Reply, AllocError>
+    ensures { IfOk result (λ w. written w ≡ answer_of help_text) }
+{
+    let text = String::from_str(
+        alloc,
+        "dhall COMMAND [--workers N]: reads standard input, with N workers for its imports, 1 to 64 (4)\n\
+         encode: writes the binary form of the expression\n\
+         decode: prints the expression of which the input is the binary form\n\
+         resolve: prints the expression with a value for each import\n\
+         type: prints its type\n\
+         normalize: prints its normal form\n\
+         hash: prints the digest of its normal form\n\
+         freeze: writes the input with a digest behind each import that has none\n\
+         help, --help, -h: prints this page\n\
+         --version: prints the version of the program and of the standard\n\
+         status 0: the answer was written\n\
+         status 1: the input or an import is no expression\n\
+         status 2: the input or an import has no type\n\
+         status 3: an import has no value\n\
+         status 4: a limit was met\n\
+         status 5: the words are no command line\n\
+         status 6: the input could not be read\n\
+         status 7: an output could not be written\n\
+         status 8: an import could not be read\n\
+         status 9: memory was wanting\n",
+    )?;
+    Ok(Reply::answer(alloc, text.into_bytes()))
+}
+
+/// The name and the version of the program, and the version of the standard.
+pub(crate) fn version(alloc: Global) -> Result<Reply, AllocError>
+    ensures { IfOk result (λ w. written w ≡ answer_of version_text) }
+{
+    let text = String::from_str(alloc, "dhall 0.1.0, standard 23\n")?;
+    Ok(Reply::answer(alloc, text.into_bytes()))
+}

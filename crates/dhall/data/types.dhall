@@ -1,0 +1,1 @@
+{ Role = < Admin | User : Natural >, Person = { name : Text, role : < Admin | User : Natural > } }
