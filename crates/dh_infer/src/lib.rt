@@ -22,6 +22,3 @@ mod steps;
 mod unloads;
 
 pub use inference::infer;
-
-#[cfg(test)]
-mod infer_tests;

@@ -17,6 +17,3 @@ mod workers;
 pub use answers::{Answered, SessionFault};
 pub use runs::resolve_all;
 pub use workers::worker;
-
-#[cfg(test)]
-mod tests;

@@ -85,6 +85,3 @@ pub fn copy(alloc: Global, e: &Expr) -> Result<Expr, AllocError>
         }
     }
 }
-
-#[cfg(test)]
-mod tests;

@@ -175,6 +175,3 @@ fn are_well_formed(kids: &Kids) -> bool
     }
     true
 }
-
-#[cfg(test)]
-mod tests;

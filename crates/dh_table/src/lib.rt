@@ -57,8 +57,3 @@ pub use roots::Ended;
 pub use steps::{Kind, Step};
 pub use tables::{Table, Ticket};
 pub use works::Work;
-
-#[cfg(test)]
-mod run_tests;
-#[cfg(test)]
-mod tests;

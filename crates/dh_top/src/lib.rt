@@ -26,14 +26,3 @@ mod words;
 pub use delivery::deliver;
 pub use runs::run_dhall;
 pub use words::read_words;
-
-#[cfg(test)]
-mod grammar_tests;
-#[cfg(test)]
-mod import_tests;
-#[cfg(test)]
-mod normal_tests;
-#[cfg(test)]
-mod tests;
-#[cfg(test)]
-mod type_tests;

@@ -23,6 +23,3 @@ mod texts;
 pub use fetching::fetch_text;
 pub use last_steps::work_item;
 pub use looking::{good_entry, look_up};
-
-#[cfg(test)]
-mod tests;

@@ -1,0 +1,13 @@
+//! Tests of whole runs of the command, over desks and streams in memory.
+#![tactic(auto)]
+
+#[cfg(test)]
+mod grammar;
+#[cfg(test)]
+mod imports;
+#[cfg(test)]
+mod normal_forms;
+#[cfg(test)]
+mod runs;
+#[cfg(test)]
+mod types;

@@ -1,5 +1,0 @@
-use Rattle.dh_work.proofs.Comings.{one_is_value}
-use Rattle.dh_work.proofs.tests.one.Goals as goal
-
-pub returns : goal.returns
-returns c = one_is_value c.new.result c.new.ensures
