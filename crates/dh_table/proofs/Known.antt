@@ -1,41 +1,36 @@
 -- What is known from earlier searches: it serves a search, grows as keys are seen, and stays true through steps.
-use Rattle.std.specs.Prelude.{◌≡◌, ◌⊎◌, ◌<◌, ◌≤◌, ◌+◌, ℕ, Bool, true, false, if◌then◌else◌, List, [], ◌∷◌, length, slice_set, Option, Some, None, is_none, IsSome, refl}
+use Rattle.std.specs.Prelude.{◌≡◌, ◌⊎◌, ◌<◌, ◌≤◌, ◌+◌, ℕ, false, if◌then◌else◌, List, [], ◌∷◌, length, Option, Some, None, is_none, IsSome, refl}
 use Rattle.std.proofs.Common.{ap, sym, ◌∙◌, subst, arith, inl, inr}
-use Rattle.std.proofs.lemmas.Bool.Decides.{eqb_tells}
-use Rattle.std.proofs.lemmas.List.{get_or-set_same, get_or-set_other}
 use Rattle.dh_syntax.specs.declared.locations.Key.{Key}
 use Rattle.dh_syntax.specs.Expressions.Tree.{Term}
 use Rattle.dh_syntax.specs.Imports.Machine as machine
 use Rattle.dh_syntax.specs.Imports.Machine.{IsAmong, Task, State, Event, IsDue, IsOpen, May, Wanted, by_root, by_key, effect, after_all, leads_by, leads_to, outcome_of, root_walk, stage_of}
-use Rattle.dh_syntax.specs.Imports.Outcomes.{Outcome}
+use Rattle.dh_syntax.specs.Imports.Outcomes.{Outcome, Good, Bad, Loop}
 use Rattle.dh_syntax.specs.Imports.Keys.{key_eq}
 use Rattle.dh_syntax.specs.Imports.Records.{lookup}
 use Rattle.dh_syntax.specs.Imports.Replay.{Replays, Step, has_too_many, root_end}
-use Rattle.dh_syntax.specs.Imports.Resolver.{TextOf, LookOf, Plan, Unknown, Now, Walks, Asks, plan, Stage, Lacks, Has, Meets, Waits, of_walk, of_bare, of_plan, stage}
+use Rattle.dh_syntax.specs.Imports.Resolver.{TextOf, LookOf, Plan, Unknown, Now, Walks, Asks, plan, of_walk, of_bare, of_plan}
 use Rattle.dh_syntax.specs.Imports.Walk.{Ask, Walked, Ready, Fails, Turns, Needs, course, ending_by, undecided, walk, wants}
 use Rattle.dh_laws.proofs.KeyOrder.{none-some}
-use Rattle.dh_import_laws.proofs.Calm.{IsWaits}
 use Rattle.dh_import_laws.proofs.Facts.{Grows, step-grows}
-use Rattle.dh_import_laws.proofs.Grow.{Longer as Longer', longer-itself, OnWait, PlanGrown, StageGrown, StageTold, plan-grown, stage-grown, stage-told}
+use Rattle.dh_import_laws.proofs.Grow.{Longer as Longer', longer-itself, PlanGrown, plan-grown}
 use Rattle.dh_import_laws.proofs.Keep.{lawful-keeps}
 use Rattle.dh_import_laws.proofs.Plans.{among_wants, wanted-undecided}
+use Rattle.dh_import_laws.proofs.Walks.{Told, walk-told}
+use Rattle.dh_import_laws.proofs.Wants.{needs-asked}
 use Rattle.dh_demand.specs.Results.{Row, number_of}
-use Rattle.dh_demand.specs.Wants.{AreMarked}
-use Rattle.dh_table.specs.declared.steps.Flight.{Flight}
+use Rattle.dh_demand.specs.Wants.{HasNumber}
 use Rattle.dh_table.specs.declared.steps.Job.{Job}
 use Rattle.dh_table.specs.declared.steps.Kind.{Kind}
 use Rattle.dh_table.specs.declared.texts.Entrant.{Entrant}
-use Rattle.dh_table.specs.declared.texts.Look.{Look}
-use Rattle.dh_table.specs.declared.texts.Text.{Text}
 use Rattle.dh_table.specs.declared.visits.Reach.TheVariants as reaches
 use Rattle.dh_table.specs.Inside.Piling.{number_at}
 use Rattle.dh_table.specs.Inside.Reading.{IsReach}
-use Rattle.dh_table.specs.Inside.Searching.{AreKnown, IsDecided, IsFound, IsMarked, IsWaiting, is_set}
+use Rattle.dh_table.specs.Inside.Searching.{AreKnown, IsDecided, IsFound, IsPlaced, IsTaskAt, IsWaiting}
 use Rattle.dh_table.specs.States.{rows_of, key_named, task_of}
 use Rattle.dh_table.proofs.Courses.{IsMet, course_same, walk-met}
-use Rattle.dh_table.proofs.Reading.{number_names}
 use Rattle.dh_table.proofs.RootEnds.{no_end}
-use Rattle.dh_table.proofs.Seeing.{leads_stand, marked_kept, stage_stands, task_at}
+use Rattle.dh_table.proofs.Seeing.{task_at}
 
 -- ---- undecided keys
 
@@ -60,9 +55,6 @@ before less more h k n = go (less k) refl
     go (Some o) e = none-some n (h k o e)
 
 -- ---- a key whose last step is due leads to none
-
-waits-none : {P : Type 0} {y : Key} (s : Stage) → (IsWaits s → P) → s ≡ Waits y → P
-waits-none s f h = f (subst IsWaits (sym h) tt)
 
 due_walk : (ask : Ask) (parent : Option Key) (e : Term) (allow : Option (List ℕ)) (w : Walked Term) (y : Key) → IsMet ask w (course parent ask e) → IsDue (of_walk allow w) → IsAmong y (wants parent ask e) → ⊥
 due_walk ask parent e allow (Ready x) y h d m = let a = among_undecided ask y (course parent ask e).asked m in h.1 y a.0 a.1
@@ -99,6 +91,63 @@ reach_leads ask rows k y (Asks j) kind r m = go (ask j) r m
     go : (o : Option Outcome) → IsReach rows k (of_bare j o) (reaches.Due kind) → IsAmong y (if is_none o then j ∷ [] else []) → ⊥
     go None h n = h
     go (Some o) h n = n
+
+-- a key that leads to one has no task
+of_walk_due : (k : Key) (allow : Option (List ℕ)) (w : Walked Term) (t : Task) → IsTaskAt k (of_walk allow w) t → IsDue (of_walk allow w)
+of_walk_due k allow (Ready e) t d = tt
+of_walk_due k allow (Fails b) t d = tt
+of_walk_due k allow (Turns j) t d = tt
+of_walk_due k allow (Needs y) t d = d
+
+leads_task : (ask : Ask) (k y : Key) (p : Plan) (t : Task) → IsAmong y (leads_by ask k p) → IsTaskAt k (of_plan ask k p) t → ⊥
+leads_task ask k y (Unknown p) t m d = m
+leads_task ask k y (Now i) t m d = m
+leads_task ask k y (Walks e allow) t m d = due_walk ask (Some k) e allow (walk (Some k) ask e) y (walk-met (Some k) ask e) (of_walk_due k allow (walk (Some k) ask e) t d) m
+leads_task ask k y (Asks j) t m d = go (ask j) m d
+  where
+    go : (o : Option Outcome) → IsAmong y (if is_none o then j ∷ [] else []) → IsTaskAt k (of_bare j o) t → ⊥
+    go None n h = h
+    go (Some o) n h = n
+
+pub leading_task : (s : State) (k y : Key) (t : Task) → IsAmong y (leads_to s k) → IsTaskAt k (stage_of s k) t → ⊥
+leading_task s k y t m d = leads_task (outcome_of s) k y (plan s.recorded k) t m d
+
+-- ---- the keys to which a key leads
+
+leads_undecided : (ask : Ask) (k y : Key) (p : Plan) → IsAmong y (leads_by ask k p) → ask y ≡ None
+leads_undecided ask k y (Unknown p) m = absurd m
+leads_undecided ask k y (Now i) m = absurd m
+leads_undecided ask k y (Walks e allow) m = (among_undecided ask y (course (Some k) ask e).asked m).1
+leads_undecided ask k y (Asks j) m = go (ask j) refl m
+  where
+    go : (o : Option Outcome) → ask j ≡ o → IsAmong y (if is_none o then j ∷ [] else []) → ask y ≡ None
+    go None e (inl p) = subst (λ x. ask x ≡ None) p e
+    go None e (inr n) = absurd n
+    go (Some o) e n = absurd n
+
+pub leading_undecided : (s : State) (k y : Key) → IsAmong y (leads_to s k) → outcome_of s y ≡ None
+leading_undecided s k y m = leads_undecided (outcome_of s) k y (plan s.recorded k) m
+
+-- a key leads to the one that its walk needs
+walk_leads : (ask : Ask) (rows : List Row) (k : Key) (e : Term) (allow : Option (List ℕ)) (n : ℕ) (w : Walked Term) → walk (Some k) ask e ≡ w → IsReach rows k (of_walk allow w) (reaches.Wait n) → HasNumber rows (wants (Some k) ask e) n
+walk_leads ask rows k e allow n (Ready x) h r = absurd r
+walk_leads ask rows k e allow n (Fails b) h r = absurd r
+walk_leads ask rows k e allow n (Turns j) h r = absurd r
+walk_leads ask rows k e allow n (Needs y) h r =
+    (y, among_wants ask y (course (Some k) ask e).asked (needs-asked (Some k) ask e y h) (subst (λ x. Told ask x) h (walk-told (Some k) ask e)), r)
+
+pub reach_leads_to : (ask : Ask) (rows : List Row) (k : Key) (p : Plan) (n : ℕ) → IsReach rows k (of_plan ask k p) (reaches.Wait n) → HasNumber rows (leads_by ask k p) n
+reach_leads_to ask rows k (Unknown (TextOf l)) n r = absurd r
+reach_leads_to ask rows k (Unknown (LookOf d)) n r = absurd r
+reach_leads_to ask rows k (Now i) n r = absurd r
+reach_leads_to ask rows k (Walks e allow) n r = walk_leads ask rows k e allow n (walk (Some k) ask e) refl r
+reach_leads_to ask rows k (Asks j) n r = go (ask j) r
+  where
+    go : (o : Option Outcome) → IsReach rows k (of_bare j o) (reaches.Wait n) → HasNumber rows (if is_none o then j ∷ [] else []) n
+    go None h = (j, inl refl, h)
+    go (Some (Good v o)) h = absurd h
+    go (Some (Bad b)) h = absurd h
+    go (Some (Loop i)) h = absurd h
 
 -- ---- where a task is open the root is undecided
 
@@ -161,9 +210,9 @@ module _ (s s' : State) (g : GoesOn s s') where
   leads_on k y (Walks e allow) q h m n = subst (λ x. IsAmong y (leads_by the-ask' k x)) (sym h) (wants_on (Some k) e y m n)
   leads_on k y (Asks j) q h m n = subst (λ x. IsAmong y (leads_by the-ask' k x)) (sym h) (bare_on j y (the-ask j) m n)
 
-  leads_back : (k y z : Key) (p q : Plan) → PlanGrown p q → of_plan the-ask k p ≡ Waits z → IsAmong y (leads_by the-ask' k q) → IsAmong y (leads_by the-ask k p)
-  leads_back k y z (Unknown p) q h w m = waits-none (Lacks p) (λ n. absurd n) w
-  leads_back k y z (Now i) q h w m = waits-none (Has i) (λ n. absurd n) w
+  leads_back : (k y z : Key) (p q : Plan) → PlanGrown p q → IsAmong z (leads_by the-ask k p) → IsAmong y (leads_by the-ask' k q) → IsAmong y (leads_by the-ask k p)
+  leads_back k y z (Unknown p) q h w m = absurd w
+  leads_back k y z (Now i) q h w m = absurd w
   leads_back k y z (Walks e allow) q h w m = wants_back (Some k) e y (subst (λ x. IsAmong y (leads_by the-ask' k x)) h m)
   leads_back k y z (Asks j) q h w m = bare_back j y (the-ask' j) refl (subst (λ x. IsAmong y (leads_by the-ask' k x)) h m)
 
@@ -178,23 +227,17 @@ module _ (s s' : State) (g : GoesOn s s') where
         | inr d ↦ absurd (due_leads s j k d m)
       ]
 
-  still_waits : (k y : Key) → stage_of s k ≡ Waits y → outcome_of s' y ≡ None → stage_of s' k ≡ Waits y
-  still_waits k y e n =
-      let a : StageGrown the-ask' (Waits y) (stage_of s' k) = subst (λ x. StageGrown the-ask' x (stage_of s' k)) e (stage-grown s.recorded s'.recorded g.grows.longer the-ask the-ask' g.grows.knows k) in
-      subst (λ o. OnWait y (stage_of s' k) o) n a
-
-  -- the keys with their numbers, the marks and the piles
-  module _ (es es' : List Entrant) (hole : ℕ → Type 0) (marks marks' : List Bool) (places places' : List ℕ)
+  -- the keys with their numbers, and the piles
+  module _ (es es' : List Entrant) (hole : ℕ → Type 0) (places places' : List ℕ)
       (numbers : (k : Key) (n : ℕ) → number_of (rows_of es) k ≡ Some n → number_of (rows_of es') k ≡ Some n)
       (longer : length es ≤ length es')
       (names : (n : ℕ) → n < length es → key_named es' n ≡ key_named es n)
-      (marks_are : (n : ℕ) → is_set marks' n ≡ is_set marks n)
       (off : (n : ℕ) → number_at places' n ≡ 0 → number_at places n ≡ 0)
       (on : (n : ℕ) → number_at places n ≡ 0 → number_at places' n ≡ 0)
       (took : (n : ℕ) → number_at places' n ≡ 1 → number_at places n ≡ 1)
-      (still : (n m : ℕ) → number_at places' n ≡ m + 4 → (number_at places n ≡ m + 4) × (IsWaiting s es marks n m → outcome_of s' (key_named es m) ≡ None)) where
-    marked_on : (k : Key) → IsMarked es marks k → IsMarked es' marks' k
-    marked_on k m = record { number = m.number; number_is = numbers k m.number m.number_is; set = marks_are m.number ∙ m.set }
+      (still : (n m : ℕ) → number_at places' n ≡ m + 4 → (number_at places n ≡ m + 4) × (IsWaiting s es places n m → outcome_of s' (key_named es m) ≡ None)) where
+    placed_on : (k : Key) → IsPlaced es places k → IsPlaced es' places' k
+    placed_on k p = record { number = p.number; number_is = numbers k p.number p.number_is; on = λ z. p.on (off p.number z) }
 
     decided_on : (k : Key) → IsDecided s k → IsDecided s' k
     decided_on k d u = d (before the-ask the-ask' g.grows.knows k u)
@@ -207,38 +250,35 @@ module _ (s s' : State) (g : GoesOn s s') where
         go (Some o) e = inr (λ u. none-some u e)
     sound_on k (inr d) = inr (decided_on k d)
 
-    waits_on : (n m : ℕ) → IsWaiting s es marks n m → outcome_of s' (key_named es m) ≡ None → IsWaiting s' es' marks' n m
+    waits_on : (n m : ℕ) → IsWaiting s es places n m → outcome_of s' (key_named es m) ≡ None → IsWaiting s' es' places' n m
     waits_on n m w u =
+        let k = key_named es n in
+        let y = key_named es m in
         let own = names n w.inside in
         let other = names m w.blocker in
         let more = longer in
         record {
           inside = let a = w.inside in omega arith;
           blocker = let a = w.blocker in omega arith;
-          stage_is = subst (λ x. stage_of s' x ≡ Waits (key_named es' m)) (sym own) (still_waits (key_named es n) (key_named es m) w.stage_is u ∙ ap (λ x. Waits x) (sym other));
-          leads =
-              λ j a.
-              let b = subst (λ x. IsAmong j (leads_to s' x)) own a in
-              marked_on j (w.leads j (leads_back (key_named es n) j (key_named es m) (plan s.recorded (key_named es n)) (plan s'.recorded (key_named es n)) (plans_grown (key_named es n)) w.stage_is b));
+          waits_for = subst (λ x. IsAmong (key_named es' m) (leads_to s' x)) (sym own) (subst (λ x. IsAmong x (leads_to s' k)) (sym other) (leads_on k y (plan s.recorded k) (plan s'.recorded k) (plans_grown k) w.waits_for u));
+          leads = λ j a. placed_on j (w.leads j (leads_back k j y (plan s.recorded k) (plan s'.recorded k) (plans_grown k) w.waits_for (subst (λ x. IsAmong j (leads_to s' x)) own a)));
         }
 
-    pub known_on : AreKnown s es hole marks places → AreKnown s' es' hole marks' places'
+    pub known_on : AreKnown s es hole places → AreKnown s' es' hole places'
     known_on e = record {
       by_root =
           λ k m.
           let b = subst (λ x. IsAmong k (wants None the-ask' x)) g.root_is m in
-          marked_on k (e.by_root k (wants_back None s.root k b));
+          placed_on k (e.by_root k (wants_back None s.root k b));
       sound =
-          λ n h.
-          let a = e.sound n (sym (marks_are n) ∙ h) in
+          λ n z.
+          let a = e.sound n (λ h. z (on n h)) in
           let more = longer in
           (let l = a.0 in omega arith, subst (λ x. Wanted s' x ⊎ IsDecided s' x) (sym (names n a.0)) (sound_on (key_named es n) a.1));
-      there = λ n h z. e.there n (sym (marks_are n) ∙ h) (off n z);
-      back = λ n z. marks_are n ∙ e.back n (λ h. z (on n h));
       taken =
           λ n z.
           let p = took n z in
-          let l = (e.sound n (e.back n (λ h. zero-one (sym h ∙ p)))).0 in
+          let l = (e.sound n (λ h. zero-one (sym h ∙ p))).0 in
           either (e.taken n p) (λ d. subst (IsDecided s') (sym (names n l)) (decided_on (key_named es n) d));
       waits = λ n m z. let f = still n m z in let w = e.waits n m f.0 in waits_on n m w (f.1 w);
     }
@@ -261,23 +301,23 @@ module _ (s s' : State) (grows : Grows s s') (root_is : s'.root ≡ s.root) (ask
     freed = λ k w. inl (ap (λ (f : Ask). f k) asks_are ∙ wanted-undecided w);
   }
 
-  waited : (k y : Key) → stage_of s k ≡ Waits y → outcome_of s' y ≡ None
-  waited k y e = ap (λ (f : Ask). f y) asks_are ∙ subst (λ x. StageTold s.recorded (outcome_of s) k x) e (stage-told s.recorded (outcome_of s) k)
+  waited : (k y : Key) → IsAmong y (leads_to s k) → outcome_of s' y ≡ None
+  waited k y m = ap (λ (f : Ask). f y) asks_are ∙ leading_undecided s k y m
 
-  pub known_quiet : (es es' : List Entrant) (hole : ℕ → Type 0) (marks marks' : List Bool) (places places' : List ℕ)
+  pub known_quiet : (es es' : List Entrant) (hole : ℕ → Type 0) (places places' : List ℕ)
       → ((k : Key) (n : ℕ) → number_of (rows_of es) k ≡ Some n → number_of (rows_of es') k ≡ Some n) → length es ≤ length es' → ((n : ℕ) → n < length es → key_named es' n ≡ key_named es n)
-      → ((n : ℕ) → is_set marks' n ≡ is_set marks n) → ((n : ℕ) → number_at places' n ≡ number_at places n)
-      → AreKnown s es hole marks places → AreKnown s' es' hole marks' places'
-  known_quiet es es' hole marks marks' places places' numbers longer names marks_are places_are e =
-      known_on s s' quiet_step es es' hole marks marks' places places' numbers longer names marks_are
+      → ((n : ℕ) → number_at places' n ≡ number_at places n)
+      → AreKnown s es hole places → AreKnown s' es' hole places'
+  known_quiet es es' hole places places' numbers longer names places_are e =
+      known_on s s' quiet_step es es' hole places places' numbers longer names
       (λ n z. sym (places_are n) ∙ z)
       (λ n z. places_are n ∙ z)
       (λ n z. sym (places_are n) ∙ z)
-      (λ n m z. (sym (places_are n) ∙ z, λ w. waited (key_named es n) (key_named es m) w.stage_is))
+      (λ n m z. (sym (places_are n) ∙ z, λ w. waited (key_named es n) (key_named es m) w.waits_for))
       e
 
-  pub known_still : (es : List Entrant) (hole : ℕ → Type 0) (marks : List Bool) (places : List ℕ) → AreKnown s es hole marks places → AreKnown s' es hole marks places
-  known_still es hole marks places e = known_quiet es es hole marks marks places places (λ k n h. h) (omega arith) (λ n l. refl) (λ n. refl) (λ n. refl) e
+  pub known_still : (es : List Entrant) (hole : ℕ → Type 0) (places : List ℕ) → AreKnown s es hole places → AreKnown s' es hole places
+  known_still es hole places e = known_quiet es es hole places places (λ k n h. h) (omega arith) (λ n l. refl) (λ n. refl) e
 
 -- a step of a history
 pub step_grows : (root : Term) (drawn : List Task) (news : List machine.News) (history : List Step) (s t : State) (e : Event) → Replays root drawn news history s → May e s → t ≡ effect e s → Grows s t
@@ -288,16 +328,7 @@ step_grows root drawn news history s t e r may p =
 -- ---- a step that changes no more than what is in flight
 
 module _ (s s' : State) (root_is : s'.root ≡ s.root) (recorded_is : s'.recorded ≡ s.recorded) (outcomes_are : s'.outcomes ≡ s.outcomes) where
-  pub known_flights : (es : List Entrant) (hole : ℕ → Type 0) (marks : List Bool) (places : List ℕ) → AreKnown s es hole marks places → AreKnown s' es hole marks places
-  known_flights es hole marks places e =
+  pub known_flights : (es : List Entrant) (hole : ℕ → Type 0) (places : List ℕ) → AreKnown s es hole places → AreKnown s' es hole places
+  known_flights es hole places e =
       known_still s s' (record { longer = subst (λ r. Longer' s.recorded r) (sym recorded_is) (longer-itself s.recorded); knows = λ k o h. ap (λ os. lookup key_eq os k) outcomes_are ∙ h }) root_is
-      (λ i k. lookup key_eq (outcomes_are i) k) es hole marks places e
-
--- ---- what waits is seen to wait for the key of a number
-
-pub reach_waits : (es : List Entrant) (k : Key) (x : Stage) (m : ℕ) → IsReach (rows_of es) k x (reaches.Wait m) → (m < length es) × (x ≡ Waits (key_named es m))
-reach_waits es k (Lacks (TextOf l)) m r = absurd r
-reach_waits es k (Lacks (LookOf d)) m r = absurd r
-reach_waits es k (Has i) m r = absurd r
-reach_waits es k (Meets j) m r = absurd r
-reach_waits es k (Waits y) m r = let a = number_names es y m r in (a.0, ap (λ z. Waits z) (sym a.1))
+      (λ i k. lookup key_eq (outcomes_are i) k) es hole places e

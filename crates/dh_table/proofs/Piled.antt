@@ -1,5 +1,5 @@
 -- A key is put on a pile, and taken from it.
-use Rattle.std.specs.Prelude.{◌≡◌, ◌⊎◌, ◌<◌, ◌≤◌, ◌+◌, ℕ, zero, suc, if◌then◌else◌, sum_by, List, [], ◌∷◌, ◌++◌, length, slice_index_or, slice_set, replicate, refl}
+use Rattle.std.specs.Prelude.{◌≡◌, ◌<◌, ◌≤◌, ◌+◌, ℕ, zero, suc, if◌then◌else◌, sum_by, List, [], ◌∷◌, ◌++◌, length, slice_index_or, slice_set, replicate, refl}
 use Rattle.std.proofs.Common.{ap, sym, ◌∙◌, subst, arith, inl, inr}
 use Rattle.std.proofs.lemmas.Bool.{cases_lt}
 use Rattle.std.proofs.lemmas.Bool.Decides.{eqb_tells}

@@ -1,5 +1,5 @@
 -- What is left to do for a key, and to which keys it leads.
-use Rattle.std.specs.Prelude.{◌≡◌, ◌<◌, ℕ, Bool, true, if◌then◌else◌, List, [], ◌∷◌, length, Option, Some, None, is_none, slice_set, refl}
+use Rattle.std.specs.Prelude.{◌≡◌, ◌⊎◌, ◌<◌, ℕ, if◌then◌else◌, List, [], ◌∷◌, length, Option, Some, None, is_none, refl}
 use Rattle.std.specs.Option.{option_map}
 use Rattle.std.proofs.Common.{ap, sym, ◌∙◌, subst, inl, inr, Bor}
 use Rattle.dh_syntax.specs.declared.locations.Key.{Key}
@@ -15,19 +15,18 @@ use Rattle.dh_demand.specs.declared.ends.Next.{Next}
 use Rattle.dh_demand.specs.declared.ends.Next.TheVariants as next
 use Rattle.dh_demand.specs.declared.scans.Edge.{Edge}
 use Rattle.dh_demand.specs.declared.scans.Scan.{Scan}
-use Rattle.dh_demand.specs.Inside.Marking.{mark}
 use Rattle.dh_demand.specs.Nexts.{IsNext}
 use Rattle.dh_demand.specs.Results.{Row, number_of, outcome_at, ask_of}
 use Rattle.dh_demand.specs.Scans.{text_key}
-use Rattle.dh_demand.specs.Wants.{AreMarked}
 use Rattle.dh_demand.proofs.Numbers.{within, stands}
-use Rattle.dh_demand.proofs.Wanting.{are_marked}
 use Rattle.dh_table.specs.declared.plans.Plan as program_plan
 use Rattle.dh_table.specs.declared.plans.Plan.TheVariants as plans
 use Rattle.dh_table.specs.declared.steps.Kind.TheVariants as kinds
 use Rattle.dh_table.specs.declared.visits.Reach.{Reach}
 use Rattle.dh_table.specs.declared.visits.Reach.TheVariants as reaches
+use Rattle.dh_table.specs.Inside.Piling.{number_at}
 use Rattle.dh_table.specs.Inside.Reading.{IsPlan, IsReach, IsWalk, IsNumbered}
+use Rattle.dh_table.specs.Inside.Searching.{ArePut}
 use Rattle.dh_table.proofs.Reading.{wants_numbered}
 
 module _ (rows : List Row) (k : Key) where
@@ -64,22 +63,38 @@ module _ (rows : List Row) (k : Key) where
   ask_due (Walks e allow) n o q h = absurd h
   ask_due (Asks j) n o q h = subst (λ x. IsReach rows k (of_bare j x) (reaches.Due kinds.Finish)) (sym (asked-outcome j n (Some o) h q)) (bare_due j (plain o))
 
-  pub ask_marks : (p : Plan) (n : ℕ) (marks : List Bool) → outcome_at rows n ≡ Some None → IsPlan rows k p (plans.Ask n) → AreMarked rows (leads_by (ask_of rows) k p) marks (slice_set marks n true)
-  ask_marks (Unknown (TextOf l)) n marks q h = absurd h
-  ask_marks (Unknown (LookOf d)) n marks q h = absurd h
-  ask_marks (Now i) n marks q h = absurd h
-  ask_marks (Walks e allow) n marks q h = absurd h
-  ask_marks (Asks j) n marks q h =
-      subst (λ o. AreMarked rows (if is_none o then j ∷ [] else []) marks (slice_set marks n true)) (sym (asked-outcome j n None h q))
-      (are_marked rows (j ∷ []) marks (slice_set marks n true) (ap (λ o. mark o marks) (sym h)))
+  -- the keys to which it leads are put on a pile
+  pub ask_put : (p : Plan) (n : ℕ) (old new : List ℕ) → outcome_at rows n ≡ Some None → IsPlan rows k p (plans.Ask n)
+      → ((x : ℕ) → (number_at new x ≡ number_at old x) ⊎ ((number_at old x ≡ 0) × (number_at new x ≡ 2) × (x ≡ n))) → ¬ (number_at new n ≡ 0) → ArePut rows (leads_by (ask_of rows) k p) old new
+  ask_put (Unknown (TextOf l)) n old new q h put on = absurd h
+  ask_put (Unknown (LookOf d)) n old new q h put on = absurd h
+  ask_put (Now i) n old new q h put on = absurd h
+  ask_put (Walks e allow) n old new q h put on = absurd h
+  ask_put (Asks j) n old new q h put on =
+      subst (λ o. ArePut rows (if is_none o then j ∷ [] else []) old new) (sym (asked-outcome j n None h q))
+      (record {
+        each = λ x w. subst (λ y. ¬ (number_at new y ≡ 0)) (some-equal (sym h ∙ ap (number_of rows) (only_one w.1) ∙ w.2)) on;
+        only =
+            λ x.
+            elim (put x) [
+              | inl same ↦ inl same
+              | inr (was, two, own) ↦ inr (was, two, (j, inl refl, h ∙ ap (λ y. Some y) (sym own)))
+            ];
+      })
+    where
+      only_one : {y : Key} → IsAmong y (j ∷ []) → j ≡ y
+      only_one (inl e) = e
+      only_one (inr b) = absurd b
 
-  pub ask_marks_none : (p : Plan) (n : ℕ) (marks : List Bool) (o : program.Outcome) → outcome_at rows n ≡ Some (Some o) → IsPlan rows k p (plans.Ask n) → AreMarked rows (leads_by (ask_of rows) k p) marks marks
-  ask_marks_none (Unknown (TextOf l)) n marks o q h = absurd h
-  ask_marks_none (Unknown (LookOf d)) n marks o q h = absurd h
-  ask_marks_none (Now i) n marks o q h = absurd h
-  ask_marks_none (Walks e allow) n marks o q h = absurd h
-  ask_marks_none (Asks j) n marks o q h =
-      subst (λ x. AreMarked rows (if is_none x then j ∷ [] else []) marks marks) (sym (asked-outcome j n (Some o) h q)) (are_marked rows [] marks marks refl)
+  no_put : (old : List ℕ) → ArePut rows [] old old
+  no_put old = record { each = λ x w z. w.1; only = λ x. inl refl }
+
+  pub ask_put_none : (p : Plan) (n : ℕ) (old : List ℕ) (o : program.Outcome) → outcome_at rows n ≡ Some (Some o) → IsPlan rows k p (plans.Ask n) → ArePut rows (leads_by (ask_of rows) k p) old old
+  ask_put_none (Unknown (TextOf l)) n old o q h = absurd h
+  ask_put_none (Unknown (LookOf d)) n old o q h = absurd h
+  ask_put_none (Now i) n old o q h = absurd h
+  ask_put_none (Walks e allow) n old o q h = absurd h
+  ask_put_none (Asks j) n old o q h = subst (λ x. ArePut rows (if is_none x then j ∷ [] else []) old old) (sym (asked-outcome j n (Some o) h q)) (no_put old)
 
   -- ---- a key with a text to walk
 
@@ -132,13 +147,10 @@ module _ (rows : List Row) (k : Key) where
   pub walk_faults : (p : Plan) (s : Bor Scan) (e : Edge) → Says s.now (next.Fault e) → IsPlan rows k p (plans.Walk s) → IsReach rows k (of_plan (ask_of rows) k p) (reaches.Due kinds.Finish)
   walk_faults p s e = reached p s (next.Fault e) (reaches.Due kinds.Finish) (λ allow w h. walk_fault allow w e h)
 
-  pub walk_marks : (p : Plan) (s : Bor Scan) (old new : List Bool) → AreMarked rows (wants (text_key (Some k.loc)) (ask_of rows) (term s.now.expr)) old new → IsPlan rows k p (plans.Walk s)
-      → AreMarked rows (leads_by (ask_of rows) k p) old new
-  walk_marks p s old new m h =
+  pub walk_leads : (p : Plan) (s : Bor Scan) → IsPlan rows k p (plans.Walk s) → leads_by (ask_of rows) k p ≡ wants (text_key (Some k.loc)) (ask_of rows) (term s.now.expr)
+  walk_leads p s h =
       let w = plan_walks p s h in
-      subst (λ x. AreMarked rows (leads_by (ask_of rows) k x) old new) (sym w.2)
-      (subst (λ e. AreMarked rows (wants (Some k) (ask_of rows) e) old new) (sym w.3.expr_is)
-      (subst (λ j. AreMarked rows (wants j (ask_of rows) (term s.now.expr)) old new) w.3.text_is m))
+      ap (leads_by (ask_of rows) k) w.2 ∙ ap (wants (Some k) (ask_of rows)) w.3.expr_is ∙ ap (λ j. wants j (ask_of rows) (term s.now.expr)) (sym w.3.text_is)
 
   -- ---- the keys to which a key leads have numbers
 

@@ -1,30 +1,28 @@
 -- A search: what is known serves it, and grows as keys are taken from the pile of those to look at.
-use Rattle.std.specs.Prelude.{◌≡◌, ◌⊎◌, ◌<◌, ◌≤◌, ◌+◌, ℕ, zero, suc, Bool, true, false, if◌then◌else◌, List, [], ◌∷◌, length, replicate, slice_index_or, slice_set, sum_by, Option, Some, None, is_none, refl}
+use Rattle.std.specs.Prelude.{◌≡◌, ◌⊎◌, ◌<◌, ◌≤◌, ◌+◌, ℕ, zero, suc, Bool, true, false, List, [], ◌∷◌, length, replicate, slice_index_or, slice_set, Option, Some, None, is_none, refl}
 use Rattle.std.specs.Option.{option_map}
-use Rattle.std.proofs.Common.{ap, sym, ◌∙◌, subst, arith, inl, inr, Bor}
-use Rattle.std.proofs.lemmas.Bool.{cases_lt}
+use Rattle.std.proofs.Common.{ap, sym, ◌∙◌, subst, arith, inl, inr}
+use Rattle.std.proofs.lemmas.Bool.{cases_lt, false≢true}
 use Rattle.std.proofs.lemmas.Bool.Decides.{eqb_tells}
-use Rattle.std.proofs.lemmas.List.{get_or-set_same, get_or-set_other, length-replicate, length-set}
+use Rattle.std.proofs.lemmas.List.{get_or_default, get_or-set_same, get_or-set_other}
 use Rattle.std.proofs.lemmas.List.Sums.{sum_by-cons, sum_by-set}
 use Rattle.std.proofs.Math.ListN.{get_or-eq_default}
 use Rattle.dh_syntax.specs.declared.locations.Key.{Key}
 use Rattle.dh_syntax.specs.declared.locations.Loc.{Loc}
 use Rattle.dh_syntax.specs.declared.outcomes.Outcome as program
 use Rattle.dh_syntax.specs.Expressions.Tree.{Term}
-use Rattle.dh_syntax.specs.Imports.Machine.{IsAmong, Task, State, IsOpen, Wanted, by_root, by_key, leads_by, leads_to, outcome_of, stage_of}
-use Rattle.dh_syntax.specs.Imports.Outcomes.{Outcome, plain}
-use Rattle.dh_syntax.specs.Imports.Resolver.{Plan, Unknown, Now, Walks, Asks, TextOf, LookOf, Stage, plan, stage}
+use Rattle.dh_syntax.specs.Imports.Machine.{IsAmong, Task, State, IsOpen, Wanted, by_root, by_key, leads_by, leads_to, outcome_of}
+use Rattle.dh_syntax.specs.Imports.Outcomes.{plain}
+use Rattle.dh_syntax.specs.Imports.Resolver.{Plan, Stage, plan, stage}
 use Rattle.dh_syntax.specs.Imports.Walk.{Ask, course, keys_of, place, wants}
 use Rattle.dh_laws.proofs.KeyOrder.{none-some, some-equal}
 use Rattle.dh_import_laws.proofs.Plans.{wanted-undecided}
 use Rattle.dh_import_laws.proofs.Wants.{asked-keys}
 use Rattle.dh_demand.specs.declared.scans.Edge.{Edge}
-use Rattle.dh_demand.specs.declared.scans.Scan.{Scan}
 use Rattle.dh_demand.specs.Results.{Row, ask_of, number_of, outcome_at}
-use Rattle.dh_demand.specs.Scans.{Begins, Fits}
-use Rattle.dh_demand.specs.Wants.{AreMarked}
-use Rattle.dh_demand.proofs.Numbers.{stands}
-use Rattle.dh_table.specs.declared.plans.Plan.TheVariants as plans
+use Rattle.dh_demand.specs.Scans.{Begins, Fits, text_key}
+use Rattle.dh_demand.specs.Wants.{AreMarked, HasNumber}
+use Rattle.dh_demand.proofs.Numbers.{stands, within}
 use Rattle.dh_table.specs.declared.steps.Flight.{Flight}
 use Rattle.dh_table.specs.declared.steps.Kind.{Kind}
 use Rattle.dh_table.specs.declared.texts.Entrant.{Entrant}
@@ -33,83 +31,148 @@ use Rattle.dh_table.specs.declared.texts.Text.{Text}
 use Rattle.dh_table.specs.declared.visits.Reach.TheVariants as reaches
 use Rattle.dh_table.specs.Inside.Entering.{AreDistinct, keys_in}
 use Rattle.dh_table.specs.Inside.Piling.{IsBare, IsPoured, number_at}
-use Rattle.dh_table.specs.Inside.Reading.{IsNumbered, IsPlan, IsReach, record_by}
-use Rattle.dh_table.specs.Inside.Searching.{AreKnown, ArePut, IsDecided, IsJob, IsMarked, IsSearched, IsSeen, IsTaskAt, IsWaiting, Flies, Stands, is_set, left_to_see, no_hole, turns_left}
+use Rattle.dh_table.specs.Inside.Reading.{IsNumbered, IsReach, record_by}
+use Rattle.dh_table.specs.Inside.Searching.{AreEdgesPut, AreKnown, ArePut, HasEdge, IsDecided, IsJob, IsPlaced, IsSearched, IsSeen, IsWaiting, Flies, Stands, is_set, left_to_see, no_hole, turns_left}
 use Rattle.dh_table.specs.States.{rows_of, key_named, task_by}
 use Rattle.dh_table.proofs.Deciding.{number_itself}
-use Rattle.dh_table.proofs.Known.{reach_leads, reach_waits}
+use Rattle.dh_table.proofs.Known.{leading_task, reach_leads}
 use Rattle.dh_table.proofs.Piled.{placed_inside, zeros}
-use Rattle.dh_table.proofs.Reaching.{plan_walks}
 use Rattle.dh_table.proofs.Reading.{among-filter, number_names, wants_numbered}
-use Rattle.dh_table.proofs.Seeing.{flies_stands, flying_tasks, leads_stand, marked_kept, nothing_set, open_job, root_wants, stage_stands, TaskAt, task_at}
+use Rattle.dh_table.proofs.Seeing.{flies_stands, flying_tasks, leads_stand, open_job, root_wants, task_at}
 
 -- ---- the wants of a text are keys of its edges
 
-edge_of : (parent : Option Loc) (rows : List Row) (ks : List Key) (es : List Edge) (k : Key) (n : ℕ) (d : Edge) → Begins parent rows ks es → IsAmong k ks → number_of rows k ≡ Some n
-    → (i : ℕ) × (i < length es) × ((slice_index_or es i d).key ≡ n)
-edge_of parent rows [] es k n d b m e = absurd m
-edge_of parent rows (j ∷ js) [] k n d b m e = absurd b
-edge_of parent rows (j ∷ js) (x ∷ xs) k n d b (inl p) e = (0, omega arith, some-equal (sym b.0.numbered ∙ ap (number_of rows) p ∙ e))
-edge_of parent rows (j ∷ js) (x ∷ xs) k n d b (inr m) e = let r = edge_of parent rows js xs k n d b.1 m e in (suc r.0, let l = r.1 in omega arith, r.2)
+edge_of : (parent : Option Loc) (rows : List Row) (ks : List Key) (es : List Edge) (k : Key) (n : ℕ) → Begins parent rows ks es → IsAmong k ks → number_of rows k ≡ Some n → HasEdge (length es) es n
+edge_of parent rows [] es k n b m e = absurd m
+edge_of parent rows (j ∷ js) [] k n b m e = absurd b
+edge_of parent rows (j ∷ js) (x ∷ xs) k n b (inl p) e = (0, omega arith, λ d. some-equal (sym b.0.numbered ∙ ap (number_of rows) p ∙ e))
+edge_of parent rows (j ∷ js) (x ∷ xs) k n b (inr m) e = let r = edge_of parent rows js xs k n b.1 m e in (suc r.0, let l = r.1 in omega arith, λ d. r.2 d)
 
-pub wants_edge : (parent : Option Key) (rows : List Row) (ask : Ask) (e : Term) (es : List Edge) (k : Key) (n : ℕ) (d : Edge) → Fits (place parent) rows e es → IsAmong k (wants parent ask e) → number_of rows k ≡ Some n
-    → (i : ℕ) × (i < length es) × ((slice_index_or es i d).key ≡ n)
-wants_edge parent rows ask e es k n d f m q =
-    edge_of (place parent) rows (keys_of (place parent) e) es k n d f.begins (asked-keys parent ask k e (among-filter (λ j. is_none (ask j)) k (course parent ask e).asked m)) q
+wants_edge : (parent : Option Key) (rows : List Row) (ask : Ask) (e : Term) (es : List Edge) (k : Key) (n : ℕ) → Fits (place parent) rows e es → IsAmong k (wants parent ask e) → number_of rows k ≡ Some n → HasEdge (length es) es n
+wants_edge parent rows ask e es k n f m q =
+    edge_of (place parent) rows (keys_of (place parent) e) es k n f.begins (asked-keys parent ask k e (among-filter (λ j. is_none (ask j)) k (course parent ask e).asked m)) q
 
-abbrev pub Each : List Edge → List Bool → List ℕ → Type 0
-Each es marks places = (i : ℕ) (d : Edge) → i < length es → is_set marks (slice_index_or es i d).key ≡ true → ¬ (number_at places (slice_index_or es i d).key ≡ 0)
+-- ---- edges, one after the other
 
--- the marked key of an edge is on a pile
-pub on_edge : (es : List Edge) (marks : List Bool) (places : List ℕ) (n : ℕ) (d : Edge) → Each es marks places → (i : ℕ) × (i < length es) × ((slice_index_or es i d).key ≡ n) → is_set marks n ≡ true → ¬ (number_at places n ≡ 0)
-on_edge es marks places n d f x h z = f x.0 d x.1 (subst (λ y. is_set marks y ≡ true) (sym x.2) h) (subst (λ y. number_at places y ≡ 0) (sym x.2) z)
+pub no_edges : (es : List Edge) (marks : List Bool) (places : List ℕ) → AreEdgesPut 0 es marks places places
+no_edges es marks places = record {
+  each = λ n h set z. let l = h.1 in omega arith;
+  only = λ n. inl refl;
+}
+
+module _ (i : ℕ) (es : List Edge) (past : Edge) (l : i < length es) where
+  abbrev e : Edge
+  e = slice_index_or es i past
+
+  at_edge : (d : Edge) → (slice_index_or es i d).key ≡ e.key
+  at_edge d = ap (λ (x : Edge). x.key) (get_or_default es i d past l)
+
+  -- the edge at this place has this number, or one before it has
+  last_edge : (n : ℕ) → HasEdge (i + 1) es n → (n ≡ e.key) ⊎ HasEdge i es n
+  last_edge n h =
+      elim (cases_lt h.0 i) [
+        | inl less ↦ inr (h.0, less, h.2)
+        | inr more ↦ (let same : h.0 ≡ i = let a = h.1 in omega arith in inl (sym (h.2 e) ∙ ap (λ j. (slice_index_or es j e).key) same ∙ at_edge e))
+      ]
+
+  new_edge : (n : ℕ) → n ≡ e.key → HasEdge (i + 1) es n
+  new_edge n p = (i, omega arith, λ d. at_edge d ∙ sym p)
+
+  old_edge : (n : ℕ) → HasEdge i es n → HasEdge (i + 1) es n
+  old_edge n h = (h.0, let a = h.1 in omega arith, h.2)
+
+  module _ (marks : List Bool) (old mid new : List ℕ)
+      (put : (x : ℕ) → (number_at new x ≡ number_at mid x) ⊎ ((number_at mid x ≡ 0) × (number_at new x ≡ 2) × (is_set marks x ≡ true) × (x ≡ e.key)))
+      (on : is_set marks e.key ≡ true → ¬ (number_at new e.key ≡ 0)) (a : AreEdgesPut i es marks old mid) where
+    stays_on : (x : ℕ) → ¬ (number_at mid x ≡ 0) → ¬ (number_at new x ≡ 0)
+    stays_on x f z =
+        elim (put x) [
+          | inl same ↦ f (sym same ∙ z)
+          | inr (was, two, set, own) ↦ f was
+        ]
+
+    pub edge_put : AreEdgesPut (i + 1) es marks old new
+    edge_put = record {
+      each =
+          λ x h set.
+          elim (last_edge x h) [
+            | inl own ↦ subst (λ y. ¬ (number_at new y ≡ 0)) (sym own) (on (subst (λ y. is_set marks y ≡ true) own set))
+            | inr before ↦ stays_on x (a.each x before set)
+          ];
+      only =
+          λ x.
+          elim (put x) [
+            | inl same ↦
+                elim (a.only x) [
+                  | inl kept ↦ inl (same ∙ kept)
+                  | inr (was, two, set, edge) ↦ inr (was, same ∙ two, set, old_edge x edge)
+                ]
+            | inr (was, two, set, own) ↦
+                elim (a.only x) [
+                  | inl kept ↦ inr (sym kept ∙ was, two, set, new_edge x own)
+                  | inr (zero_was, put_before, set_before, edge) ↦ (let b : ⊥ = omega arith in absurd b)
+                ]
+          ];
+    }
+
+-- ---- the wants of a text are put on the pile of those to look at
+
+place_text : (parent : Option Loc) → parent ≡ place (text_key parent)
+place_text None = refl
+place_text (Some l) = refl
+
+module _ (parent : Option Loc) (rows : List Row) (ask : Ask) (e : Term) (es : List Edge) (fits : Fits parent rows e es) (start marks : List Bool) (fit : length rows ≤ length start)
+    (off : (n : ℕ) → HasEdge (length es) es n → is_set start n ≡ false) (marked : AreMarked rows (wants (text_key parent) ask e) start marks) where
+  edge_wanted : (n : ℕ) → HasEdge (length es) es n → is_set marks n ≡ true → HasNumber rows (wants (text_key parent) ask e) n
+  edge_wanted n h set =
+      elim (marked.only n set) [
+        | inl before ↦ absurd (false≢true (sym (off n h) ∙ before))
+        | inr w ↦ w
+      ]
+
+  pub wants_put : (old new : List ℕ) → AreEdgesPut (length es) es marks old new → ArePut rows (wants (text_key parent) ask e) old new
+  wants_put old new a = record {
+    each =
+        λ n h.
+        a.each n (wants_edge (text_key parent) rows ask e es h.0 n (subst (λ (l : Option Loc). Fits l rows e es) (place_text parent) fits) h.1 h.2)
+        (marked.set n (let l = within rows h.0 n h.2 in omega arith) h);
+    only =
+        λ n.
+        elim (a.only n) [
+          | inl same ↦ inl same
+          | inr (was, two, set, edge) ↦ inr (was, two, edge_wanted n edge set)
+        ];
+  }
 
 -- ---- the beginning
 
 module _ (keys : List Entrant) (texts : List Text) (looks : List Look) (flights : List Flight) (s : State) (p : Stands keys texts looks flights s) (root : Term) (edges : List Edge) (root_is : s.root ≡ root) (fits : Fits None (rows_of keys) root edges)
-    (size others : ℕ) (old marks : List Bool) (before places : List ℕ) (fit : length keys ≤ size) (old_is : old ≡ replicate size false) (marked : AreMarked (rows_of keys) (wants None (ask_of (rows_of keys)) root) old marks)
-    (before_is : before ≡ replicate others 0) (put : ArePut marks before places) (each : Each edges marks places) where
+    (others : ℕ) (before places : List ℕ) (before_is : before ≡ replicate others 0) (put : ArePut (rows_of keys) (wants None (ask_of (rows_of keys)) root) before places) where
   was_off : (n : ℕ) → number_at before n ≡ 0
   was_off n = subst (λ ns. number_at ns n ≡ 0) (sym before_is) (zeros others n)
 
-  on_or_off : (n : ℕ) → (number_at places n ≡ 0) ⊎ ((number_at places n ≡ 2) × (is_set marks n ≡ true))
+  on_or_off : (n : ℕ) → (number_at places n ≡ 0) ⊎ ((number_at places n ≡ 2) × HasNumber (rows_of keys) (wants None (ask_of (rows_of keys)) root) n)
   on_or_off n =
-      elim (put n) [
-        | inl e ↦ inl (e ∙ was_off n)
-        | inr e ↦ inr (e.1, e.2)
+      elim (put.only n) [
+        | inl same ↦ inl (same ∙ was_off n)
+        | inr (was, two, w) ↦ inr (two, w)
       ]
 
   its_wants : wants None (outcome_of s) s.root ≡ wants None (ask_of (rows_of keys)) root
   its_wants = root_wants keys texts looks flights s p root root_is
 
-  pub begun_known : AreKnown s keys no_hole marks places
+  pub begun_known : AreKnown s keys no_hole places
   begun_known = record {
     by_root =
         λ k q.
         let w = subst (IsAmong k) its_wants q in
         let x = wants_numbered None (rows_of keys) (ask_of (rows_of keys)) root edges k fits w in
-        let inside = number_names keys k x.0 x.1 in
-        let l : x.0 < length old = let a = inside.0 in let b = ap length old_is ∙ length-replicate size false in omega arith in
-        record { number = x.0; number_is = x.1; set = marked.set x.0 l (k, w, x.1) };
+        record { number = x.0; number_is = x.1; on = put.each x.0 (k, w, x.1) };
     sound =
-        λ n h.
-        elim (marked.only n h) [
-          | inl o ↦ absurd (nothing_set size n (subst (λ bs. is_set bs n ≡ true) old_is o))
-          | inr (j, w, q) ↦ (let inside = number_names keys j n q in (inside.0, inl (subst (Wanted s) (sym inside.1) (by_root (subst (IsAmong j) (sym its_wants) w)))))
-        ];
-    there =
-        λ n h z.
-        elim (marked.only n h) [
-          | inl o ↦ nothing_set size n (subst (λ bs. is_set bs n ≡ true) old_is o)
-          | inr (j, w, q) ↦
-              on_edge edges marks places n (record { key = 0; sane = true }) each
-              (wants_edge None (rows_of keys) (ask_of (rows_of keys)) root edges j n (record { key = 0; sane = true }) fits w q) h z
-        ];
-    back =
         λ n z.
         elim (on_or_off n) [
           | inl e ↦ absurd (z e)
-          | inr e ↦ e.1
+          | inr (two, (j, w, q)) ↦ (let inside = number_names keys j n q in (inside.0, inl (subst (Wanted s) (sym inside.1) (by_root (subst (IsAmong j) (sym its_wants) w)))))
         ];
     taken =
         λ n z.
@@ -134,21 +197,26 @@ place_poured from to old new p n =
       | inr e ↦ inl ((p n).1 e.1, e.1)
     ]
 
-module _ (s : State) (keys : List Entrant) (flights : List Flight) (marks : List Bool) (places places' : List ℕ) (p : IsPoured 3 2 places places') (e : AreKnown s keys no_hole marks places) where
-  pub held_again : IsSearched s keys flights no_hole marks places'
+module _ (s : State) (keys : List Entrant) (flights : List Flight) (places places' : List ℕ) (p : IsPoured 3 2 places places') (e : AreKnown s keys no_hole places) where
+  still_placed : (k : Key) → IsPlaced keys places k → IsPlaced keys places' k
+  still_placed k h = record {
+    number = h.number;
+    number_is = h.number_is;
+    on =
+        λ z.
+        elim (place_poured 3 2 places places' p h.number) [
+          | inl q ↦ h.on (sym q.0 ∙ z)
+          | inr q ↦ (let a = q.1 in omega arith)
+        ];
+  }
+
+  pub held_again : IsSearched s keys flights no_hole places'
   held_again = record {
     known = record {
-      by_root = e.by_root;
-      sound = e.sound;
-      there =
-          λ n h z.
-          elim (place_poured 3 2 places places' p n) [
-            | inl q ↦ e.there n h (sym q.0 ∙ z)
-            | inr q ↦ (let a = q.1 in omega arith)
-          ];
-      back =
+      by_root = λ k m. still_placed k (e.by_root k m);
+      sound =
           λ n z.
-          e.back n
+          e.sound n
           (λ y.
           elim (place_poured 3 2 places places' p n) [
             | inl q ↦ z (q.0 ∙ y)
@@ -163,7 +231,7 @@ module _ (s : State) (keys : List Entrant) (flights : List Flight) (marks : List
       waits =
           λ n m z.
           elim (place_poured 3 2 places places' p n) [
-            | inl q ↦ e.waits n m (sym q.0 ∙ z)
+            | inl q ↦ (let w = e.waits n m (sym q.0 ∙ z) in record { inside = w.inside; blocker = w.blocker; waits_for = w.waits_for; leads = λ j a. still_placed j (w.leads j a) })
             | inr q ↦ (let a = q.1 in let x : ⊥ = omega arith in absurd x)
           ];
     };
@@ -177,69 +245,100 @@ module _ (s : State) (keys : List Entrant) (flights : List Flight) (marks : List
 
 -- ---- a key is taken from the pile of those to look at, and put on another
 
-module _ (s : State) (keys : List Entrant) (flights : List Flight) (n : ℕ) (marks : List Bool) (places : List ℕ) where
-  abbrev pub at_n : ℕ → Type 0
-  at_n m = m ≡ n
+-- a key that has a place gets another
+module _ (s : State) (keys : List Entrant) (flights : List Flight) (n p : ℕ) (places : List ℕ) (there : ¬ (number_at places n ≡ 0)) (some_place : ¬ (p ≡ 0)) where
+  moved_inside : n < length places
+  moved_inside =
+      elim (cases_lt n (length places)) [
+        | inl l ↦ l
+        | inr g ↦ absurd (there (get_or-eq_default places 0 g))
+      ]
 
-  pub popped_searched : number_at places n ≡ 2 → IsSearched s keys flights no_hole marks places → IsSearched s keys flights (λ m. m ≡ n) marks (slice_set places n 1)
+  pub moved_to : (m : ℕ) → m ≡ n → number_at (slice_set places n p) m ≡ p
+  moved_to m y = ap (number_at (slice_set places n p)) y ∙ get_or-set_same places n p 0 moved_inside
+
+  -- no other key has another place
+  pub unmoved : (m : ℕ) → (m ≡ n → ⊥) → number_at (slice_set places n p) m ≡ number_at places m
+  unmoved m y = get_or-set_other places n m p 0 y
+
+  pub moved_placed : (k : Key) → IsPlaced keys places k → IsPlaced keys (slice_set places n p) k
+  moved_placed k h = record {
+    number = h.number;
+    number_is = h.number_is;
+    on =
+        λ z.
+        elim (eqb_tells h.number n) [
+          | inl y ↦ some_place (sym (moved_to h.number y.1) ∙ z)
+          | inr y ↦ h.on (sym (unmoved h.number y.1) ∙ z)
+        ];
+  }
+
+  pub moved_sound : ((m : ℕ) → ¬ (number_at places m ≡ 0) → (m < length keys) × (Wanted s (key_named keys m) ⊎ IsDecided s (key_named keys m)))
+      → (m : ℕ) → ¬ (number_at (slice_set places n p) m ≡ 0) → (m < length keys) × (Wanted s (key_named keys m) ⊎ IsDecided s (key_named keys m))
+  moved_sound f m z =
+      elim (eqb_tells m n) [
+        | inl y ↦ f m (λ a. there (ap (number_at places) (sym y.1) ∙ a))
+        | inr y ↦ f m (λ a. z (unmoved m y.1 ∙ a))
+      ]
+
+  pub moved_waiting : (m i : ℕ) → IsWaiting s keys places m i → IsWaiting s keys (slice_set places n p) m i
+  moved_waiting m i w = record { inside = w.inside; blocker = w.blocker; waits_for = w.waits_for; leads = λ j a. moved_placed j (w.leads j a) }
+
+  pub moved_seen : (k : Key) → IsSeen s keys flights places k → IsSeen s keys flights (slice_set places n p) k
+  moved_seen k h = record { leads = λ j a. moved_placed j (h.leads j a); tasks = h.tasks }
+
+module _ (s : State) (keys : List Entrant) (flights : List Flight) (n : ℕ) (places : List ℕ) where
+  pub popped_searched : number_at places n ≡ 2 → IsSearched s keys flights no_hole places → IsSearched s keys flights (λ m. m ≡ n) (slice_set places n 1)
   popped_searched two x = record {
     known = record {
-      by_root = e.by_root;
-      sound = e.sound;
-      there =
-          λ m h z.
-          elim (eqb_tells m n) [
-            | inl y ↦ (let a = here m y.1 in omega arith)
-            | inr y ↦ e.there m h (sym (get_or-set_other places n m 1 0 y.1) ∙ z)
-          ];
-      back =
-          λ m z.
-          elim (eqb_tells m n) [
-            | inl y ↦ subst (λ i. is_set marks i ≡ true) (sym y.1) (e.back n (λ a. omega arith))
-            | inr y ↦ e.back m (λ a. z (get_or-set_other places n m 1 0 y.1 ∙ a))
-          ];
+      by_root = λ k m. moved_placed s keys flights n 1 places there some_place k (e.by_root k m);
+      sound = moved_sound s keys flights n 1 places there some_place e.sound;
       taken =
           λ m z.
           elim (eqb_tells m n) [
             | inl y ↦ inl y.1
-            | inr y ↦ decided m (e.taken m (sym (get_or-set_other places n m 1 0 y.1) ∙ z))
+            | inr y ↦ decided m (e.taken m (sym (still m y.1) ∙ z))
           ];
       waits =
           λ m i z.
           elim (eqb_tells m n) [
             | inl y ↦ (let a = here m y.1 in let b : ⊥ = omega arith in absurd b)
-            | inr y ↦ e.waits m i (sym (get_or-set_other places n m 1 0 y.1) ∙ z)
+            | inr y ↦ moved_waiting s keys flights n 1 places there some_place m i (e.waits m i (sym (still m y.1) ∙ z))
           ];
     };
     held =
         λ m z.
         elim (eqb_tells m n) [
           | inl y ↦ (let a = here m y.1 in let b : ⊥ = omega arith in absurd b)
-          | inr y ↦ x.held m (sym (get_or-set_other places n m 1 0 y.1) ∙ z)
+          | inr y ↦ moved_seen s keys flights n 1 places there some_place (key_named keys m) (x.held m (sym (still m y.1) ∙ z))
         ];
   }
     where
-      e : AreKnown s keys no_hole marks places
+      e : AreKnown s keys no_hole places
       e = x.known
 
-      inside : n < length places
-      inside = placed_inside places n 2 (omega arith) two
+      there : ¬ (number_at places n ≡ 0)
+      there a = omega arith
+
+      some_place : ¬ (◌≡◌ {A = ℕ} 1 0)
+      some_place a = omega arith
 
       here : (m : ℕ) → m ≡ n → number_at (slice_set places n 1) m ≡ 1
-      here m y = ap (number_at (slice_set places n 1)) y ∙ get_or-set_same places n 1 0 inside
+      here m y = moved_to s keys flights n 1 places there some_place m y
+
+      still : (m : ℕ) → (m ≡ n → ⊥) → number_at (slice_set places n 1) m ≡ number_at places m
+      still m y = unmoved s keys flights n 1 places there some_place m y
 
       decided : (m : ℕ) → ⊥ ⊎ IsDecided s (key_named keys m) → (m ≡ n) ⊎ IsDecided s (key_named keys m)
       decided m (inl a) = absurd a
       decided m (inr d) = inr d
 
   -- a taken key that is decided
-  pub decided_searched : IsDecided s (key_named keys n) → IsSearched s keys flights (λ m. m ≡ n) marks places → IsSearched s keys flights no_hole marks places
+  pub decided_searched : IsDecided s (key_named keys n) → IsSearched s keys flights (λ m. m ≡ n) places → IsSearched s keys flights no_hole places
   decided_searched d x = record {
     known = record {
       by_root = x.known.by_root;
       sound = x.known.sound;
-      there = x.known.there;
-      back = x.known.back;
       taken =
           λ m z.
           elim (x.known.taken m z) [
@@ -251,162 +350,108 @@ module _ (s : State) (keys : List Entrant) (flights : List Flight) (n : ℕ) (ma
     held = x.held;
   }
 
-  module _ (p : ℕ) (one : number_at places n ≡ 1) (two : 2 ≤ p) (x : IsSearched s keys flights (λ m. m ≡ n) marks places) (waits' : (m : ℕ) → p ≡ m + 4 → IsWaiting s keys marks n m) where
-    there_n : n < length places
-    there_n =
-        elim (cases_lt n (length places)) [
-          | inl l ↦ l
-          | inr g ↦ (let d : number_at places n ≡ 0 = get_or-eq_default places 0 g in let b : ⊥ = omega arith in absurd b)
-        ]
+  module _ (p : ℕ) (one : number_at places n ≡ 1) (two : 2 ≤ p) (x : IsSearched s keys flights (λ m. m ≡ n) places) (waits' : (m : ℕ) → p ≡ m + 4 → IsWaiting s keys places n m) where
+    there_n : ¬ (number_at places n ≡ 0)
+    there_n a = omega arith
+
+    some_n : ¬ (p ≡ 0)
+    some_n a = omega arith
 
     now : (m : ℕ) → m ≡ n → number_at (slice_set places n p) m ≡ p
-    now m y = ap (number_at (slice_set places n p)) y ∙ get_or-set_same places n p 0 there_n
+    now m y = moved_to s keys flights n p places there_n some_n m y
 
-    pub placed_known : AreKnown s keys no_hole marks (slice_set places n p)
+    as_was : (m : ℕ) → (m ≡ n → ⊥) → number_at (slice_set places n p) m ≡ number_at places m
+    as_was m y = unmoved s keys flights n p places there_n some_n m y
+
+    pub placed_known : AreKnown s keys no_hole (slice_set places n p)
     placed_known = record {
-      by_root = x.known.by_root;
-      sound = x.known.sound;
-      there =
-          λ m h z.
-          elim (eqb_tells m n) [
-            | inl y ↦ (let a = now m y.1 in omega arith)
-            | inr y ↦ x.known.there m h (sym (get_or-set_other places n m p 0 y.1) ∙ z)
-          ];
-      back =
-          λ m z.
-          elim (eqb_tells m n) [
-            | inl y ↦ subst (λ i. is_set marks i ≡ true) (sym y.1) (x.known.back n (λ a. omega arith))
-            | inr y ↦ x.known.back m (λ a. z (get_or-set_other places n m p 0 y.1 ∙ a))
-          ];
+      by_root = λ k m. moved_placed s keys flights n p places there_n some_n k (x.known.by_root k m);
+      sound = moved_sound s keys flights n p places there_n some_n x.known.sound;
       taken =
           λ m z.
           elim (eqb_tells m n) [
             | inl y ↦ (let a = now m y.1 in let b : ⊥ = omega arith in absurd b)
-            | inr y ↦ apart m y.1 (x.known.taken m (sym (get_or-set_other places n m p 0 y.1) ∙ z))
+            | inr y ↦ apart m y.1 (x.known.taken m (sym (as_was m y.1) ∙ z))
           ];
       waits =
           λ m i z.
-          elim (eqb_tells m n) [
-            | inl y ↦ subst (λ j. IsWaiting s keys marks j i) (sym y.1) (waits' i (sym (now m y.1) ∙ z))
-            | inr y ↦ x.known.waits m i (sym (get_or-set_other places n m p 0 y.1) ∙ z)
-          ];
+          moved_waiting s keys flights n p places there_n some_n m i
+          (elim (eqb_tells m n) [
+            | inl y ↦ subst (λ j. IsWaiting s keys places j i) (sym y.1) (waits' i (sym (now m y.1) ∙ z))
+            | inr y ↦ x.known.waits m i (sym (as_was m y.1) ∙ z)
+          ]);
     }
       where
         apart : (m : ℕ) → (m ≡ n → ⊥) → (m ≡ n) ⊎ IsDecided s (key_named keys m) → ⊥ ⊎ IsDecided s (key_named keys m)
         apart m f (inl y) = absurd (f y)
         apart m f (inr d) = inr d
 
-    pub placed_searched : (p ≡ 3 → IsSeen s keys flights marks (key_named keys n)) → IsSearched s keys flights no_hole marks (slice_set places n p)
+    pub placed_searched : (p ≡ 3 → IsSeen s keys flights places (key_named keys n)) → IsSearched s keys flights no_hole (slice_set places n p)
     placed_searched f = record {
       known = placed_known;
       held =
           λ m z.
-          elim (eqb_tells m n) [
-            | inl y ↦ subst (λ i. IsSeen s keys flights marks (key_named keys i)) (sym y.1) (f (sym (now m y.1) ∙ z))
-            | inr y ↦ x.held m (sym (get_or-set_other places n m p 0 y.1) ∙ z)
-          ];
+          moved_seen s keys flights n p places there_n some_n (key_named keys m)
+          (elim (eqb_tells m n) [
+            | inl y ↦ subst (λ i. IsSeen s keys flights places (key_named keys i)) (sym y.1) (f (sym (now m y.1) ∙ z))
+            | inr y ↦ x.held m (sym (as_was m y.1) ∙ z)
+          ]);
     }
 
 -- ---- the keys to which a wanted key leads are put on that pile
 
-module _ (s : State) (keys : List Entrant) (flights : List Flight) (hole : ℕ → Type 0) (n : ℕ) (marks marks' : List Bool) (places places' : List ℕ) (wanted : Wanted s (key_named keys n)) (fit : length keys ≤ length marks)
-    (marked : AreMarked (rows_of keys) (leads_to s (key_named keys n)) marks marks') (numbered : (j : Key) → IsAmong j (leads_to s (key_named keys n)) → IsNumbered (rows_of keys) j)
-    (put : ArePut marks' places places') (each : (m : ℕ) → is_set marks' m ≡ true → (is_set marks m ≡ true) ⊎ ¬ (number_at places' m ≡ 0)) (x : IsSearched s keys flights hole marks places) where
-  kept : (j : Key) → IsMarked keys marks j → IsMarked keys marks' j
-  kept j m = marked_kept keys marks marks' marked.kept j m
+module _ (s : State) (keys : List Entrant) (flights : List Flight) (hole : ℕ → Type 0) (n : ℕ) (places places' : List ℕ) (wanted : Wanted s (key_named keys n))
+    (numbered : (j : Key) → IsAmong j (leads_to s (key_named keys n)) → IsNumbered (rows_of keys) j) (put : ArePut (rows_of keys) (leads_to s (key_named keys n)) places places') (x : IsSearched s keys flights hole places) where
+  kept : (j : Key) → IsPlaced keys places j → IsPlaced keys places' j
+  kept j h = record {
+    number = h.number;
+    number_is = h.number_is;
+    on =
+        λ z.
+        elim (put.only h.number) [
+          | inl same ↦ h.on (sym same ∙ z)
+          | inr (was, two, w) ↦ h.on was
+        ];
+  }
 
-  pub lead_marked : (j : Key) → IsAmong j (leads_to s (key_named keys n)) → IsMarked keys marks' j
-  lead_marked j m =
-      let y = numbered j m in
-      let inside = number_names keys j y.0 y.1 in
-      let l : y.0 < length marks = let a = inside.0 in omega arith in
-      record { number = y.0; number_is = y.1; set = marked.set y.0 l (j, m, y.1) }
+  pub lead_placed : (j : Key) → IsAmong j (leads_to s (key_named keys n)) → IsPlaced keys places' j
+  lead_placed j m = let y = numbered j m in record { number = y.0; number_is = y.1; on = put.each y.0 (j, m, y.1) }
 
-  pub put_searched : IsSearched s keys flights hole marks' places'
+  pub put_searched : IsSearched s keys flights hole places'
   put_searched = record {
     known = record {
       by_root = λ k m. kept k (x.known.by_root k m);
       sound =
-          λ m h.
-          elim (marked.only m h) [
-            | inl old ↦ x.known.sound m old
-            | inr (j, a, q) ↦ (let inside = number_names keys j m q in (inside.0, inl (subst (Wanted s) (sym inside.1) (by_key wanted a))))
-          ];
-      there =
-          λ m h z.
-          elim (each m h) [
-            | inr f ↦ f z
-            | inl old ↦
-                elim (put m) [
-                  | inl same ↦ x.known.there m old (sym same ∙ z)
-                  | inr new ↦ (let a = new.1 in omega arith)
-                ]
-          ];
-      back =
           λ m z.
-          elim (put m) [
-            | inl same ↦ marked.kept m (x.known.back m (λ a. z (same ∙ a)))
-            | inr new ↦ new.2
+          elim (put.only m) [
+            | inl same ↦ x.known.sound m (λ a. z (same ∙ a))
+            | inr (was, two, (j, a, q)) ↦ (let inside = number_names keys j m q in (inside.0, inl (subst (Wanted s) (sym inside.1) (by_key wanted a))))
           ];
       taken =
           λ m z.
-          elim (put m) [
+          elim (put.only m) [
             | inl same ↦ x.known.taken m (sym same ∙ z)
-            | inr new ↦ (let a = new.1 in let b : ⊥ = omega arith in absurd b)
+            | inr (was, two, w) ↦ (let b : ⊥ = omega arith in absurd b)
           ];
       waits =
           λ m i z.
-          elim (put m) [
-            | inl same ↦ (let w = x.known.waits m i (sym same ∙ z) in record { inside = w.inside; blocker = w.blocker; stage_is = w.stage_is; leads = λ j a. kept j (w.leads j a) })
-            | inr new ↦ (let a = new.1 in let b : ⊥ = omega arith in absurd b)
+          elim (put.only m) [
+            | inl same ↦ (let w = x.known.waits m i (sym same ∙ z) in record { inside = w.inside; blocker = w.blocker; waits_for = w.waits_for; leads = λ j a. kept j (w.leads j a) })
+            | inr (was, two, w) ↦ (let b : ⊥ = omega arith in absurd b)
           ];
     };
     held =
         λ m z.
-        elim (put m) [
+        elim (put.only m) [
           | inl same ↦ (let w = x.held m (sym same ∙ z) in record { leads = λ j a. kept j (w.leads j a); tasks = w.tasks })
-          | inr new ↦ (let a = new.1 in let b : ⊥ = omega arith in absurd b)
+          | inr (was, two, w) ↦ (let b : ⊥ = omega arith in absurd b)
         ];
   }
-
--- ---- the keys of the edges of a text to which a key leads
-
-pub walk_each : (rows : List Row) (k : Key) (q : Plan) (s : Bor Scan) (marks marks' : List Bool) (places : List ℕ) → IsPlan rows k q (plans.Walk s) → AreMarked rows (leads_by (ask_of rows) k q) marks marks' → Each s.now.edges marks' places
-    → (x : ℕ) → is_set marks' x ≡ true → (is_set marks x ≡ true) ⊎ ¬ (number_at places x ≡ 0)
-walk_each rows k q s marks marks' places h m each x set =
-    elim (m.only x set) [
-      | inl old ↦ inl old
-      | inr (j, a, n) ↦
-          let y = plan_walks rows k q s h in
-          inr
-          (on_edge s.now.edges marks' places x (record { key = 0; sane = true }) each
-          (wants_edge (Some k) rows (ask_of rows) y.0 s.now.edges j x (record { key = 0; sane = true }) y.3.fits (subst (λ z. IsAmong j (leads_by (ask_of rows) k z)) y.2 a) n)
-          set)
-    ]
-
-pub ask_each : (rows : List Row) (k : Key) (q : Plan) (i : ℕ) (marks marks' : List Bool) (places : List ℕ) → IsPlan rows k q (plans.Ask i) → AreMarked rows (leads_by (ask_of rows) k q) marks marks' → (is_set marks' i ≡ true → ¬ (number_at places i ≡ 0))
-    → (x : ℕ) → is_set marks' x ≡ true → (is_set marks x ≡ true) ⊎ ¬ (number_at places x ≡ 0)
-ask_each rows k (Unknown (TextOf l)) i marks marks' places h m on x set = absurd h
-ask_each rows k (Unknown (LookOf d)) i marks marks' places h m on x set = absurd h
-ask_each rows k (Now z) i marks marks' places h m on x set = absurd h
-ask_each rows k (Walks e allow) i marks marks' places h m on x set = absurd h
-ask_each rows k (Asks j) i marks marks' places h m on x set =
-    elim (m.only x set) [
-      | inl old ↦ inl old
-      | inr (y, a, n) ↦
-          let same : i ≡ x = some-equal (sym h ∙ ap (number_of rows) (one_of (ask_of rows j) a) ∙ n) in
-          inr (λ z. on (subst (λ v. is_set marks' v ≡ true) (sym same) set) (subst (λ v. number_at places v ≡ 0) (sym same) z))
-    ]
-  where
-    one_of : {y : Key} (o : Option Outcome) → IsAmong y (if is_none o then j ∷ [] else []) → j ≡ y
-    one_of None (inl e) = e
-    one_of None (inr b) = absurd b
-    one_of (Some o) b = absurd b
 
 -- ---- a key of a table that was taken
 
 module _ (keys : List Entrant) (texts : List Text) (looks : List Look) (flights : List Flight) (s : State) (p : Stands keys texts looks flights s) (n : ℕ) (inside : n < length keys) (undecided : outcome_of s (key_named keys n) ≡ None)
-    (marks : List Bool) (places : List ℕ) (one : number_at places n ≡ 1) (x : IsSearched s keys flights (λ m. m ≡ n) marks places) where
+    (places : List ℕ) (one : number_at places n ≡ 1) (x : IsSearched s keys flights (λ m. m ≡ n) places) where
   abbrev its-plan : Plan
   its-plan = plan (record_by texts looks) (key_named keys n)
 
@@ -418,57 +463,56 @@ module _ (keys : List Entrant) (texts : List Text) (looks : List Look) (flights 
 
   its_wanted : Wanted s (key_named keys n)
   its_wanted =
-      elim ((x.known.sound n (x.known.back n (λ z. omega arith))).1) [
+      elim ((x.known.sound n (λ z. omega arith)).1) [
         | inl w ↦ w
         | inr d ↦ absurd (d undecided)
       ]
 
-  module _ (by : ℕ) (marks' : List Bool) (places' : List ℕ) (fit : length keys ≤ length marks) (reach : IsReach (rows_of keys) (key_named keys n) its-stage (reaches.Wait by))
-      (marked : AreMarked (rows_of keys) (leads_by (ask_of (rows_of keys)) (key_named keys n) its-plan) marks marks') (numbered : (j : Key) → IsAmong j (leads_by (ask_of (rows_of keys)) (key_named keys n) its-plan) → IsNumbered (rows_of keys) j)
-      (put : ArePut marks' places places') (each : (m : ℕ) → is_set marks' m ≡ true → (is_set marks m ≡ true) ⊎ ¬ (number_at places' m ≡ 0)) where
-    marked_so : AreMarked (rows_of keys) (leads_to s (key_named keys n)) marks marks'
-    marked_so = subst (λ ks. AreMarked (rows_of keys) ks marks marks') (sym its-leads) marked
+  module _ (by : ℕ) (places' : List ℕ) (led : HasNumber (rows_of keys) (leads_by (ask_of (rows_of keys)) (key_named keys n) its-plan) by)
+      (numbered : (j : Key) → IsAmong j (leads_by (ask_of (rows_of keys)) (key_named keys n) its-plan) → IsNumbered (rows_of keys) j)
+      (put : ArePut (rows_of keys) (leads_by (ask_of (rows_of keys)) (key_named keys n) its-plan) places places') where
+    put_so : ArePut (rows_of keys) (leads_to s (key_named keys n)) places places'
+    put_so = subst (λ ks. ArePut (rows_of keys) ks places places') (sym its-leads) put
 
     numbered_so : (j : Key) → IsAmong j (leads_to s (key_named keys n)) → IsNumbered (rows_of keys) j
     numbered_so j m = numbered j (subst (IsAmong j) its-leads m)
 
-    its_wait : IsWaiting s keys marks' n by
+    its_wait : IsWaiting s keys places' n by
     its_wait =
-        let r = reach_waits keys (key_named keys n) its-stage by reach in
+        let r = number_names keys led.0 by led.2 in
         record {
           inside = inside;
           blocker = r.0;
-          stage_is = stage_stands keys texts looks flights s p (key_named keys n) ∙ r.1;
-          leads = lead_marked s keys flights (λ m. m ≡ n) n marks marks' places places' its_wanted fit marked_so numbered_so put each x;
+          waits_for = subst (λ y. IsAmong y (leads_to s (key_named keys n))) (sym r.1) (subst (IsAmong led.0) (sym its-leads) led.1);
+          leads = lead_placed s keys flights (λ m. m ≡ n) n places places' its_wanted numbered_so put_so x;
         }
 
     still_one : number_at places' n ≡ 1
     still_one =
-        elim (put n) [
+        elim (put.only n) [
           | inl same ↦ same ∙ one
-          | inr new ↦ (let a = new.0 in let b : ⊥ = omega arith in absurd b)
+          | inr (was, two, w) ↦ (let b : ⊥ = omega arith in absurd b)
         ]
 
-    pub wait_searched : IsSearched s keys flights no_hole marks' (slice_set places' n (by + 4))
+    pub wait_searched : IsSearched s keys flights no_hole (slice_set places' n (by + 4))
     wait_searched =
-        placed_searched s keys flights n marks' places' (by + 4) still_one (omega arith)
-        (put_searched s keys flights (λ m. m ≡ n) n marks marks' places places' its_wanted fit marked_so numbered_so put each x)
-        (λ m e. subst (IsWaiting s keys marks' n) (let a : by ≡ m = omega arith in a) its_wait)
+        placed_searched s keys flights n places' (by + 4) still_one (omega arith) (put_searched s keys flights (λ m. m ≡ n) n places places' its_wanted numbered_so put_so x)
+        (λ m e. subst (IsWaiting s keys places' n) (let a : by ≡ m = omega arith in a) its_wait)
         (λ e. let a : ⊥ = omega arith in absurd a)
 
   module _ (kind : Kind) (reach : IsReach (rows_of keys) (key_named keys n) its-stage (reaches.Due kind)) where
     no_leads : (j : Key) → IsAmong j (leads_to s (key_named keys n)) → ⊥
     no_leads j m = reach_leads (ask_of (rows_of keys)) (rows_of keys) (key_named keys n) j its-plan kind reach (subst (IsAmong j) its-leads m)
 
-    pub held_searched : Flies keys flights (task_by kind (key_named keys n)) → IsSearched s keys flights no_hole marks (slice_set places n 3)
+    pub held_searched : Flies keys flights (task_by kind (key_named keys n)) → IsSearched s keys flights no_hole (slice_set places n 3)
     held_searched f =
-        placed_searched s keys flights n marks places 3 one (omega arith) x (λ m e. let a : ⊥ = omega arith in absurd a)
+        placed_searched s keys flights n places 3 one (omega arith) x (λ m e. let a : ⊥ = omega arith in absurd a)
         (λ e. record { leads = λ j m. absurd (no_leads j m); tasks = flying_tasks keys texts looks flights s p n inside kind reach f })
 
-    pub open_tried : ¬ Flies keys flights (task_by kind (key_named keys n)) → IsJob s keys (record { kind = kind; key = n }) × AreKnown s keys no_hole marks (slice_set places n 2)
+    pub open_tried : ¬ Flies keys flights (task_by kind (key_named keys n)) → IsJob s keys (record { kind = kind; key = n }) × AreKnown s keys no_hole (slice_set places n 2)
     open_tried f = (
       open_job keys texts looks flights s p n inside kind its_wanted reach f,
-      placed_known s keys flights n marks places 2 one (omega arith) x (λ m e. let a : ⊥ = omega arith in absurd a),
+      placed_known s keys flights n places 2 one (omega arith) x (λ m e. let a : ⊥ = omega arith in absurd a),
     )
 
 -- ---- the outcome of the key of a number
@@ -487,12 +531,12 @@ module _ (keys : List Entrant) (distinct : AreDistinct (keys_in keys)) (n : ℕ)
 
 -- ---- a search ends where there are no keys to look at
 
-module _ (keys : List Entrant) (texts : List Text) (looks : List Look) (flights : List Flight) (s : State) (p : Stands keys texts looks flights s) (marks : List Bool) (places : List ℕ) (x : IsSearched s keys flights no_hole marks places) (bare : IsBare 2 places) where
-  seen_at : (n : ℕ) → is_set marks n ≡ true → Wanted s (key_named keys n) → IsSeen s keys flights marks (key_named keys n)
+module _ (keys : List Entrant) (texts : List Text) (looks : List Look) (flights : List Flight) (s : State) (p : Stands keys texts looks flights s) (places : List ℕ) (x : IsSearched s keys flights no_hole places) (bare : IsBare 2 places) where
+  seen_at : (n : ℕ) → ¬ (number_at places n ≡ 0) → Wanted s (key_named keys n) → IsSeen s keys flights places (key_named keys n)
   seen_at n h w = go (number_at places n) refl
     where
-      go : (m : ℕ) → number_at places n ≡ m → IsSeen s keys flights marks (key_named keys n)
-      go zero e = absurd (x.known.there n h e)
+      go : (m : ℕ) → number_at places n ≡ m → IsSeen s keys flights places (key_named keys n)
+      go zero e = absurd (h e)
       go (suc zero) e =
           elim (x.known.taken n e) [
             | inl b ↦ absurd b
@@ -503,21 +547,21 @@ module _ (keys : List Entrant) (texts : List Text) (looks : List Look) (flights 
       go (suc (suc (suc (suc m)))) e =
           let four : number_at places n ≡ m + 4 = omega arith in
           let y = x.known.waits n m four in
-          record { leads = y.leads; tasks = λ t d. absurd (subst (λ z. IsTaskAt (key_named keys n) z t) y.stage_is d) }
+          record { leads = y.leads; tasks = λ t d. absurd (leading_task s (key_named keys n) (key_named keys m) t y.waits_for d) }
 
-  seen_key : (k : Key) → Wanted s k → IsMarked keys marks k → IsSeen s keys flights marks k
-  seen_key k w m =
-      let e = (number_names keys k m.number m.number_is).1 in
-      subst (IsSeen s keys flights marks) e (seen_at m.number m.set (subst (Wanted s) (sym e) w))
+  seen_key : (k : Key) → Wanted s k → IsPlaced keys places k → IsSeen s keys flights places k
+  seen_key k w h =
+      let e = (number_names keys k h.number h.number_is).1 in
+      subst (IsSeen s keys flights places) e (seen_at h.number h.on (subst (Wanted s) (sym e) w))
 
-  wanted_marked : {k : Key} → Wanted s k → IsMarked keys marks k
-  wanted_marked {k} (by_root m) = x.known.by_root k m
-  wanted_marked {k} (by_key {j = j} w m) = (seen_key j w (wanted_marked w)).leads k m
+  wanted_placed : {k : Key} → Wanted s k → IsPlaced keys places k
+  wanted_placed {k} (by_root m) = x.known.by_root k m
+  wanted_placed {k} (by_key {j = j} w m) = (seen_key j w (wanted_placed w)).leads k m
 
   pub none_open : (t : Task) → ¬ IsOpen s t
   none_open t o =
       let a = task_at s t o.due in
-      let f = flies_stands keys texts looks flights s p t ((seen_key a.key a.wanted (wanted_marked a.wanted)).tasks t a.due) in
+      let f = flies_stands keys texts looks flights s p t ((seen_key a.key a.wanted (wanted_placed a.wanted)).tasks t a.due) in
       o.free f.0 f.1
 
 -- ---- a search ends
@@ -533,13 +577,13 @@ sum_below (x ∷ xs) (y ∷ ys) l f =
     let right = sum_by-cons turns_left y ys in
     omega arith
 
-pub put_falls : (marks : List Bool) (old new : List ℕ) → length new ≡ length old → ArePut marks old new → left_to_see new ≤ left_to_see old
-put_falls marks old new l put =
+pub put_falls : (rows : List Row) (ks : List Key) (old new : List ℕ) → length new ≡ length old → ArePut rows ks old new → left_to_see new ≤ left_to_see old
+put_falls rows ks old new l put =
     sum_below new old l
     (λ n.
-    elim (put n) [
+    elim (put.only n) [
       | inl same ↦ (let a = ap turns_left same in omega arith)
-      | inr p ↦ (let a = ap turns_left p.0 in let b = ap turns_left p.1 in omega arith)
+      | inr (was, two, w) ↦ (let a = ap turns_left was in let b = ap turns_left two in omega arith)
     ])
 
 pub pop_falls : (places : List ℕ) (n : ℕ) → number_at places n ≡ 2 → left_to_see (slice_set places n 1) < left_to_see places

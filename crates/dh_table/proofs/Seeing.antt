@@ -15,10 +15,7 @@ use Rattle.dh_syntax.specs.Imports.Resolver.{plan, of_plan, stage, Stage, TextOf
 use Rattle.dh_syntax.specs.Imports.Walk.{wants}
 use Rattle.dh_syntax.specs.Imports.Machine.{leads_by}
 use Rattle.dh_syntax.specs.Expressions.Tree.{Term}
-use Rattle.dh_demand.specs.declared.scans.Edge.{Edge}
 use Rattle.dh_demand.specs.Results.{Row, ask_of}
-use Rattle.dh_demand.specs.Scans.{Fits}
-use Rattle.dh_demand.specs.Wants.{AreMarked}
 use Rattle.dh_table.specs.declared.steps.Flight.{Flight}
 use Rattle.dh_table.specs.declared.steps.Kind.{Kind}
 use Rattle.dh_table.specs.declared.steps.Kind.TheVariants as kinds
@@ -26,10 +23,10 @@ use Rattle.dh_table.specs.declared.texts.Entrant.{Entrant}
 use Rattle.dh_table.specs.declared.texts.Look.{Look}
 use Rattle.dh_table.specs.declared.texts.Text.{Text}
 use Rattle.dh_table.specs.declared.visits.Reach.TheVariants as reaches
-use Rattle.dh_table.specs.Inside.Reading.{record_by, IsReach, IsNumbered}
+use Rattle.dh_table.specs.Inside.Reading.{record_by, IsReach}
 use Rattle.dh_table.specs.Inside.Searching.{Stands, Flies, IsTaskAt, is_set, IsMarked, IsJob, one_unless, unseen}
 use Rattle.dh_table.specs.States.{rows_of, key_named, digest_or_none, task_by}
-use Rattle.dh_table.proofs.Reading.{number_names, plan_limits, wants_numbered}
+use Rattle.dh_table.proofs.Reading.{plan_limits}
 
 -- ---- a state by the parts of a table
 

@@ -1,9 +1,7 @@
 -- What is known from earlier searches stays true where a text is recorded, and where a key gets a value that each text may read.
-use Rattle.std.specs.Prelude.{◌≡◌, ◌⊎◌, ◌<◌, ◌+◌, ℕ, zero, suc, Bool, true, false, if◌then◌else◌, List, [], ◌∷◌, length, slice_set, Option, Some, None, is_none, refl}
+use Rattle.std.specs.Prelude.{◌≡◌, ◌⊎◌, ◌<◌, ◌+◌, ℕ, true, if◌then◌else◌, List, length, Option, Some, None, is_none, refl}
 use Rattle.std.proofs.Common.{ap, sym, ◌∙◌, subst, arith, inl, inr}
 use Rattle.std.proofs.lemmas.Bool.{false≢true}
-use Rattle.std.proofs.lemmas.Bool.Decides.{eqb_tells}
-use Rattle.std.proofs.lemmas.List.{get_or-set_other}
 use Rattle.dh_syntax.specs.declared.locations.Key.{Key}
 use Rattle.dh_syntax.specs.declared.locations.Loc.{Loc}
 use Rattle.dh_syntax.specs.declared.outcomes.Origin.{Origin}
@@ -19,22 +17,22 @@ use Rattle.dh_syntax.specs.Imports.Machine as machine
 use Rattle.dh_syntax.specs.Imports.Machine.{Task, State, IsDue, May, Wanted, effect, outcome_of, stage_of}
 use Rattle.dh_syntax.specs.Imports.Outcomes.{plain}
 use Rattle.dh_syntax.specs.Imports.Replay.{Replays, Step}
-use Rattle.dh_syntax.specs.Imports.Resolver.{Stage, Waits}
+use Rattle.dh_syntax.specs.Imports.Resolver.{Stage}
 use Rattle.dh_syntax.specs.Imports.Walk.{Goes, Stops, allowed, ending_by, place}
-use Rattle.dh_laws.proofs.KeyOrder.{bool-case, none-some, key_eq-true, key_eq-itself, some-equal}
+use Rattle.dh_laws.proofs.KeyOrder.{bool-case, key_eq-true, key_eq-itself, some-equal}
 use Rattle.dh_import_laws.proofs.Due.{in_flight_due}
 use Rattle.dh_import_laws.proofs.Facts.{Grows}
-use Rattle.dh_import_laws.proofs.Grow.{StageTold, longer-itself, stage-told}
+use Rattle.dh_import_laws.proofs.Grow.{longer-itself}
 use Rattle.dh_import_laws.proofs.Plans.{wanted-undecided}
 use Rattle.dh_demand.specs.Results.{number_of}
 use Rattle.dh_table.specs.declared.explored.Explored.{Explored}
 use Rattle.dh_table.specs.declared.texts.Entrant.{Entrant}
 use Rattle.dh_table.specs.Inside.Entering.{AreDistinct, AreMore, decided_at, keys_in}
-use Rattle.dh_table.specs.Inside.Piling.{number_at}
-use Rattle.dh_table.specs.Inside.Searching.{IsExploredBy, IsSameKnown, IsUnblocked, IsWaiting, Knows, is_open_origin, is_open_value, is_set, no_hole}
+use Rattle.dh_table.specs.Inside.Piling.{IsPoured, number_at}
+use Rattle.dh_table.specs.Inside.Searching.{IsExploredBy, IsSameKnown, IsWaiting, Knows, is_open_origin, is_open_value, no_hole}
 use Rattle.dh_table.specs.States.{rows_of, key_named}
 use Rattle.dh_table.proofs.Deciding.{decided_length, names, number_itself, numbers}
-use Rattle.dh_table.proofs.Known.{GoesOn, known_on, known_quiet, step_grows}
+use Rattle.dh_table.proofs.Known.{GoesOn, known_on, known_quiet, leading_undecided, step_grows}
 use Rattle.dh_table.proofs.NewKeys.{entrant_grown}
 use Rattle.dh_table.proofs.Searched.{place_poured}
 use Rattle.dh_table.proofs.TextLanding.{as_many_more, name_grown}
@@ -43,18 +41,18 @@ use Rattle.dh_table.proofs.TextLanding.{as_many_more, name_grown}
 
 pub known_alike : (s : State) (es : List Entrant) (old new : Explored) → IsSameKnown old new → Knows s es old → Knows s es new
 known_alike s es old new same k h =
-    known_quiet s s (record { longer = longer-itself s.recorded; knows = λ x o q. q }) refl refl es es no_hole old.marks new.marks old.piles new.piles (λ x n q. q) (omega arith) (λ n l. refl)
-    same.marks_are same.piles_are (k (sym same.known_is ∙ h))
+    known_quiet s s (record { longer = longer-itself s.recorded; knows = λ x o q. q }) refl refl es es no_hole old.piles new.piles (λ x n q. q) (omega arith) (λ n l. refl)
+    same.piles_are (k (sym same.known_is ∙ h))
 
 -- ---- more keys
 
 pub known_more : (es es' : List Entrant) (ks : List Key) → AreMore es ks es' → (s s' : State) → Grows s s' → s'.root ≡ s.root → outcome_of s' ≡ outcome_of s → (old new : Explored) → IsSameKnown old new → Knows s es old → Knows s' es' new
 known_more es es' ks m s s' grows root_is asks_are old new same k h =
-    known_quiet s s' grows root_is asks_are es es' no_hole old.marks new.marks old.piles new.piles
+    known_quiet s s' grows root_is asks_are es es' no_hole old.piles new.piles
     (λ x n q. subst (λ (fs : List Entrant). number_of (rows_of fs) x ≡ Some n) (sym m.new_is) (entrant_grown es m.more x n q))
     (as_many_more es es' ks m)
     (λ n l. ap (λ (fs : List Entrant). key_named fs n) m.new_is ∙ name_grown es m.more n l)
-    same.marks_are same.piles_are (k (sym same.known_is ∙ h))
+    same.piles_are (k (sym same.known_is ∙ h))
 
 -- ---- a value that each text may read
 
@@ -130,27 +128,23 @@ module _ (root : Term) (drawn : List Task) (news : List machine.News) (history :
   still_none : (m : ℕ) → m < length es → (m ≡ n → ⊥) → outcome_of s (key_named es m) ≡ None → outcome_of s' (key_named es m) ≡ None
   still_none m h p u = elsewhere (key_named es m) (λ q. p (own_number m h q)) ∙ u
 
-  module _ (old new : Explored) (u : IsUnblocked n old new) where
-    waited : (k y : Key) → stage_of s k ≡ Waits y → outcome_of s y ≡ None
-    waited k y e = subst (λ x. StageTold s.recorded (outcome_of s) k x) e (stage-told s.recorded (outcome_of s) k)
-
+  module _ (old new : Explored) (poured : IsPoured (n + 4) 2 old.piles new.piles) where
     moved : (m : ℕ) → (number_at new.piles m ≡ number_at old.piles m × ¬ (number_at old.piles m ≡ n + 4)) ⊎ ((number_at old.piles m ≡ n + 4) × (number_at new.piles m ≡ 2))
-    moved m = place_poured (n + 4) 2 old.piles new.piles u.poured m
+    moved m = place_poured (n + 4) 2 old.piles new.piles poured m
 
-    still : (m j : ℕ) → number_at new.piles m ≡ j + 4 → (number_at old.piles m ≡ j + 4) × (IsWaiting s es old.marks m j → outcome_of s' (key_named es j) ≡ None)
+    still : (m j : ℕ) → number_at new.piles m ≡ j + 4 → (number_at old.piles m ≡ j + 4) × (IsWaiting s es old.piles m j → outcome_of s' (key_named es j) ≡ None)
     still m j z =
         elim (moved m) [
           | inr q ↦ (let a = q.1 in let b : ⊥ = omega arith in absurd b)
-          | inl q ↦ (sym q.0 ∙ z, λ w. still_none j w.blocker (λ y. q.1 (sym q.0 ∙ z ∙ ap (λ i. i + 4) y)) (waited (key_named es m) (key_named es j) w.stage_is))
+          | inl q ↦ (sym q.0 ∙ z, λ w. still_none j w.blocker (λ y. q.1 (sym q.0 ∙ z ∙ ap (λ i. i + 4) y)) (leading_undecided s (key_named es m) (key_named es j) w.waits_for))
         ]
 
     pub known_decided : IsExploredBy s es old → IsExploredBy s' (decided_at es n o) new
     known_decided e =
-        known_on s s' goes_on es (decided_at es n o) no_hole old.marks new.marks old.piles new.piles
+        known_on s s' goes_on es (decided_at es n o) no_hole old.piles new.piles
         (λ k m q. numbers es n o l d k ∙ q)
         (let a = decided_length es n o (decided_at es n o) refl in omega arith)
         (λ m h. ap (λ (f : ℕ → Key). f m) (names es n o l d))
-        (λ m. ap (λ bs. is_set bs m) u.marks_are)
         (λ m z.
         elim (moved m) [
           | inl q ↦ sym q.0 ∙ z

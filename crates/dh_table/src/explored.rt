@@ -1,8 +1,8 @@
 //! What searches have found so far, so that the next one looks only at what has changed.
 
 ghost use Rattle.std.specs.Prelude.{◌≡◌, ◌<◌, ◌≤◌, ◌+◌, ℕ, true, false, length, max, replicate, IfOk, OnOk};
-ghost use Rattle.dh_table.specs.Inside.Piling.{number_at};
-ghost use Rattle.dh_table.specs.Inside.Searching.{is_set, HasRoom, IsSameKnown, IsUnblocked};
+ghost use Rattle.dh_table.specs.Inside.Piling.{IsPoured, number_at};
+ghost use Rattle.dh_table.specs.Inside.Searching.{is_set, HasRoom, IsSameKnown};
 
 use crate::piles::{Piles, pour};
 use dh_demand::Marks;
@@ -22,10 +22,10 @@ pub(crate) fn waiters(n: u32) -> usize
 }
 
 /// The keys that were found to be wanted, each on a pile: of those to look at, of those in flight, or of those that wait for
-/// one key.
+/// one key. The marks are those of the text that was walked last.
 #[derive(Debug, Drop)]
 pub(crate) struct Explored {
-    /// Whether the rest is true of the table as it stands.
+    /// Whether the piles are true of the table as it stands.
     pub known: bool,
     pub marks: Marks,
     pub piles: Piles,
@@ -58,13 +58,12 @@ impl Explored {
         Ok(())
     }
 
-    /// Begins anew: no key has a mark, and none is on a pile.
+    /// Begins anew: no key is on a pile.
     pub fn clear(&mut self)
         ensures known { self.new.known ≡ true }
-        ensures marks { self.new.marks ≡ replicate (length self.old.marks) false }
+        ensures marks { self.new.marks ≡ self.old.marks }
         ensures piles { self.new.piles ≡ replicate (length self.old.piles) 0 }
     {
-        self.marks.clear();
         self.piles.clear();
         self.known = true;
     }
@@ -75,7 +74,7 @@ impl Explored {
         requires { n < length self.old.piles }
         ensures known { self.new.known ≡ true → self.old.known ≡ true }
         ensures passes { self.new.known ≡ true → passes ≡ true }
-        ensures unblocked { IsUnblocked n self.old self.new }
+        ensures poured { IsPoured (n + 4) 2 self.old.piles self.new.piles }
         ensures room { (keys : ℕ) → HasRoom keys self.old → HasRoom keys self.new }
     {
         self.known = self.known && passes;

@@ -15,14 +15,14 @@ ghost use Rattle.dh_table.specs.declared.texts.Text.{Text};
 
 use crate::entrants::Entrants;
 use crate::explored::{Explored, HELD, READY, waiters};
-use crate::leads::{lead, put_edges};
+use crate::leads::{lead, put_wanted};
 use crate::lookups::{Looks, Texts};
 use crate::piles::pour;
 use crate::plans::plan_of;
 use crate::sameness::flies;
 use crate::steps::{Flight, Job};
 use crate::visits::{Reach, reach_of};
-use dh_demand::{Results, Scan, wanted};
+use dh_demand::{Results, Scan};
 
 /// What a look at the next key came to.
 #[derive(Clone, Copy, Debug)]
@@ -66,7 +66,7 @@ pub(crate) fn find_open(
     }
 }
 
-// Where nothing is known: marks the keys that the root wants, and puts them on the pile of those to look at.
+// Where nothing is known: puts the keys that the root wants on the pile of those to look at.
 fn begin(root: &Scan, keys: &Entrants, explored: &mut Explored)
     requires root { Fits None (rows_of keys.now) (term root.now.expr) root.now.edges }
     requires room { HasRoom (length keys.now) explored.old }
@@ -78,8 +78,7 @@ fn begin(root: &Scan, keys: &Entrants, explored: &mut Explored)
         return;
     }
     explored.clear();
-    wanted(root, None, keys, &mut explored.marks);
-    put_edges(root.edges.as_slice(), &explored.marks, &mut explored.piles);
+    put_wanted(root, None, keys, explored);
 }
 
 // Looks at the next key.
@@ -96,8 +95,8 @@ fn try_next(
     requires few { length keys.now ≤ 2 ^ 32 }
     requires distinct { AreDistinct (keys_in keys.now) }
     requires room { HasRoom (length keys.now) explored.old }
-    ensures tried { (s : State) → Stands keys.now texts.now looks.now flights.now s → IsSearched s keys.now flights.now no_hole explored.old.marks explored.old.piles →
-        IsTried s keys.now flights.now explored.new.marks explored.new.piles result }
+    ensures tried { (s : State) → Stands keys.now texts.now looks.now flights.now s → IsSearched s keys.now flights.now no_hole explored.old.piles →
+        IsTried s keys.now flights.now explored.new.piles result }
     ensures falls { result ≡ Tried.Further → left_to_see explored.new.piles < left_to_see explored.old.piles }
     ensures room { HasRoom (length keys.now) explored.new }
 {
@@ -115,7 +114,8 @@ fn try_next(
 }
 
 // Sees an undecided key that was taken from its pile: puts it on another, with the keys to which it leads. Answers its task where
-// that is due and not in flight.
+// that is due and not in flight. A key with no task waits for any of those to which it leads, and not for the one that its walk
+// needs next: else a text of many imports would be walked again after each of them.
 fn see(
     keys: &Entrants,
     texts: &Texts<'_>,
@@ -130,16 +130,16 @@ fn see(
     requires named { All (λ (f : Flight). f.job.key < length keys.now) flights.now }
     requires room { HasRoom (length keys.now) explored.old }
     requires taken { number_at explored.old.piles n ≡ 1 }
-    ensures tried { (s : State) → Stands keys.now texts.now looks.now flights.now s → outcome_of s (key_named keys.now n) ≡ None → IsSearched s keys.now flights.now (λ m. m ≡ n) explored.old.marks explored.old.piles →
-        IsTried s keys.now flights.now explored.new.marks explored.new.piles result }
+    ensures tried { (s : State) → Stands keys.now texts.now looks.now flights.now s → outcome_of s (key_named keys.now n) ≡ None → IsSearched s keys.now flights.now (λ m. m ≡ n) explored.old.piles →
+        IsTried s keys.now flights.now explored.new.piles result }
     ensures falls { result ≡ Tried.Further → left_to_see explored.new.piles ≤ left_to_see explored.old.piles }
     ensures room { HasRoom (length keys.now) explored.new }
 {
     let plan = plan_of(keys, texts, looks, n);
     match reach_of(keys, n, plan) {
         Reach::Wait(by) => {
-            lead(keys, n, plan, explored);
-            explored.piles.push(waiters(by), n as usize);
+            let other = lead(keys, n, plan, by, explored);
+            explored.piles.push(waiters(other), n as usize);
             Tried::Further
         }
         Reach::Due(kind) => {

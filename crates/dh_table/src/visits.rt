@@ -1,11 +1,9 @@
-//! Which task of a key is due, and to which keys it leads.
+//! Which task of a key is due, or for which key it waits.
 
-ghost use Rattle.std.specs.Prelude.{◌<◌, ◌≤◌, All, length};
-ghost use Rattle.dh_syntax.specs.Imports.Machine.{leads_by};
+ghost use Rattle.std.specs.Prelude.{◌<◌, All, length};
 ghost use Rattle.dh_syntax.specs.Imports.Resolver as resolver;
 ghost use Rattle.dh_syntax.specs.Imports.Resolver.{of_plan, stage};
 ghost use Rattle.dh_demand.specs.Results.{ask_of};
-ghost use Rattle.dh_demand.specs.Wants.{AreMarked};
 ghost use Rattle.dh_table.specs.Inside.Entering.{IsListed};
 ghost use Rattle.dh_table.specs.Inside.Reading.{record_by, IsRead, IsPlan, IsReach};
 ghost use Rattle.dh_table.specs.States.{rows_of, key_named};
@@ -14,7 +12,7 @@ use crate::entrants::Entrants;
 use crate::lookups::{Looks, Texts};
 use crate::plans::{Plan, plan_of};
 use crate::steps::Kind;
-use dh_demand::{Marks, Next, Results, next, wanted};
+use dh_demand::{Next, Results, next};
 
 /// What is left to do for a key.
 #[derive(Clone, Copy, Debug)]
@@ -53,23 +51,6 @@ pub(crate) fn reach_of(keys: &Entrants, n: u32, plan: Plan<'_>) -> Reach
         Plan::Ask(key) => match keys.outcome(key) {
             None => Reach::Wait(key),
             Some(_) => Reach::Due(Kind::Finish),
-        },
-    }
-}
-
-/// Marks the keys to which a key with this plan leads.
-pub(crate) fn mark_leads(keys: &Entrants, n: u32, plan: Plan<'_>, marks: &mut Marks)
-    requires inside { n < length keys.now }
-    requires plan { (p : resolver.Plan) × IsPlan (rows_of keys.now) (key_named keys.now n) p plan }
-    requires marks { length keys.now ≤ length marks.old }
-    ensures { (p : resolver.Plan) → IsPlan (rows_of keys.now) (key_named keys.now n) p plan.entry → AreMarked (rows_of keys.now) (leads_by (ask_of (rows_of keys.now)) (key_named keys.now n) p) marks.old marks.new }
-{
-    match plan {
-        Plan::Fetch | Plan::Look | Plan::Now => {}
-        Plan::Walk(scan) => wanted(scan, Some(&keys.key(n).loc), keys, marks),
-        Plan::Ask(key) => match keys.outcome(key) {
-            None => marks.set(key, true),
-            Some(_) => {}
         },
     }
 }

@@ -1,5 +1,5 @@
 -- Piles of keys.
-use Rattle.std.specs.Prelude.{◌≡◌, ◌⊎◌, ◌<◌, ◌≤◌, ◌+◌, ℕ, suc, List, [], ◌∷◌, length, slice_index_or}
+use Rattle.std.specs.Prelude.{◌≡◌, ◌⊎◌, ◌≤◌, ◌+◌, ℕ, suc, List, [], ◌∷◌, length, slice_index_or}
 
 abbrev pub number_at : List ℕ → ℕ → ℕ
 number_at ns n = slice_index_or ns n 0

@@ -13,8 +13,9 @@ use Rattle.dh_syntax.specs.Imports.Machine.{IsAmong, Task, State, IsOpen, Wanted
 use Rattle.dh_syntax.specs.Imports.Records.{lookup}
 use Rattle.dh_syntax.specs.Imports.Resolver.{TextOf, LookOf, Lacks, Has, Meets, Waits, Stage}
 use Rattle.dh_syntax.specs.Imports.Walk.{Turns, wants}
-use Rattle.dh_demand.specs.Results.{ask_of}
-use Rattle.dh_demand.specs.Results.{number_of}
+use Rattle.dh_demand.specs.declared.scans.Edge.{Edge}
+use Rattle.dh_demand.specs.Results.{Row, ask_of, number_of}
+use Rattle.dh_demand.specs.Wants.{HasNumber}
 use Rattle.dh_table.specs.declared.explored.Explored.{Explored}
 use Rattle.dh_table.specs.declared.searches.Tried.{Tried}
 use Rattle.dh_table.specs.declared.searches.Tried.TheVariants as tries
@@ -23,7 +24,7 @@ use Rattle.dh_table.specs.declared.steps.Job.{Job}
 use Rattle.dh_table.specs.declared.texts.Entrant.{Entrant}
 use Rattle.dh_table.specs.declared.texts.Look.{Look}
 use Rattle.dh_table.specs.declared.texts.Text.{Text}
-use Rattle.dh_table.specs.Inside.Piling.{IsBare, IsPoured, number_at}
+use Rattle.dh_table.specs.Inside.Piling.{IsBare, number_at}
 use Rattle.dh_table.specs.States.{IsFrozenLook, rows_of, key_named, task_of, flight_of, text_of, look_of}
 
 -- the state has these keys, texts, looks and flights
@@ -59,9 +60,15 @@ pub record IsMarked (keys : List Entrant) (marks : List Bool) (k : Key) : Type 0
   pub number_is : number_of (rows_of keys) k ≡ Some number
   pub set : is_set marks number ≡ true
 
--- the keys to which a key leads are marked, and its task is in flight
-pub record IsSeen (s : State) (keys : List Entrant) (flights : List Flight) (marks : List Bool) (k : Key) : Type 0 where
-  pub leads : (j : Key) → IsAmong j (leads_to s k) → IsMarked keys marks j
+-- the key is on a pile, or was taken from one
+pub record IsPlaced (keys : List Entrant) (places : List ℕ) (k : Key) : Type 0 where
+  pub number : ℕ
+  pub number_is : number_of (rows_of keys) k ≡ Some number
+  pub on : ¬ (number_at places number ≡ 0)
+
+-- the keys to which a key leads are placed, and its task is in flight
+pub record IsSeen (s : State) (keys : List Entrant) (flights : List Flight) (places : List ℕ) (k : Key) : Type 0 where
+  pub leads : (j : Key) → IsAmong j (leads_to s k) → IsPlaced keys places j
   pub tasks : (t : Task) → IsTaskAt k (stage_of s k) t → Flies keys flights t
 
 -- an open task, or none is open
@@ -76,50 +83,58 @@ IsFound s keys None = (t : Task) → ¬ IsOpen s t
 
 -- ---- what is known from earlier searches
 
--- the key of the number n waits for that of the number m, and the keys to which it leads are marked
-pub record IsWaiting (s : State) (keys : List Entrant) (marks : List Bool) (n m : ℕ) : Type 0 where
+-- the key of the number n leads to that of the number m, for which it waits, and each key to which it leads is placed
+pub record IsWaiting (s : State) (keys : List Entrant) (places : List ℕ) (n m : ℕ) : Type 0 where
   pub inside : n < length keys
   pub blocker : m < length keys
-  pub stage_is : stage_of s (key_named keys n) ≡ Waits (key_named keys m)
-  pub leads : (j : Key) → IsAmong j (leads_to s (key_named keys n)) → IsMarked keys marks j
+  pub waits_for : IsAmong (key_named keys m) (leads_to s (key_named keys n))
+  pub leads : (j : Key) → IsAmong j (leads_to s (key_named keys n)) → IsPlaced keys places j
 
 abbrev pub IsDecided : State → Key → Type 0
 IsDecided s k = ¬ (outcome_of s k ≡ None)
 
--- The marked keys are wanted or were decided since, those that the root wants among them, and each is on a pile or was taken
--- from one: a key of the pile m + 4 waits for the key of the number m. A taken key is decided, unless it is at the hole.
-pub record AreKnown (s : State) (keys : List Entrant) (hole : ℕ → Type 0) (marks : List Bool) (places : List ℕ) : Type 0 where
-  pub by_root : (k : Key) → IsAmong k (wants None (outcome_of s) s.root) → IsMarked keys marks k
-  pub sound : (n : ℕ) → is_set marks n ≡ true → (n < length keys) × (Wanted s (key_named keys n) ⊎ IsDecided s (key_named keys n))
-  pub there : (n : ℕ) → is_set marks n ≡ true → ¬ (number_at places n ≡ 0)
-  pub back : (n : ℕ) → ¬ (number_at places n ≡ 0) → is_set marks n ≡ true
+-- The placed keys are wanted or were decided since, those that the root wants among them. A key of the pile m + 4 waits for the
+-- key of the number m. A taken key is decided, unless it is at the hole.
+pub record AreKnown (s : State) (keys : List Entrant) (hole : ℕ → Type 0) (places : List ℕ) : Type 0 where
+  pub by_root : (k : Key) → IsAmong k (wants None (outcome_of s) s.root) → IsPlaced keys places k
+  pub sound : (n : ℕ) → ¬ (number_at places n ≡ 0) → (n < length keys) × (Wanted s (key_named keys n) ⊎ IsDecided s (key_named keys n))
   pub taken : (n : ℕ) → number_at places n ≡ 1 → hole n ⊎ IsDecided s (key_named keys n)
-  pub waits : (n m : ℕ) → number_at places n ≡ m + 4 → IsWaiting s keys marks n m
+  pub waits : (n m : ℕ) → number_at places n ≡ m + 4 → IsWaiting s keys places n m
 
 abbrev pub no_hole : ℕ → Type 0
 no_hole n = ⊥
 
 abbrev pub IsExploredBy : State → List Entrant → Explored → Type 0
-IsExploredBy s keys e = AreKnown s keys no_hole e.marks e.piles
+IsExploredBy s keys e = AreKnown s keys no_hole e.piles
 
 -- so it is, unless nothing is known
 abbrev pub Knows : State → List Entrant → Explored → Type 0
 Knows s keys e = e.known ≡ true → IsExploredBy s keys e
 
 -- and each key of the pile 3 was seen
-pub record IsSearched (s : State) (keys : List Entrant) (flights : List Flight) (hole : ℕ → Type 0) (marks : List Bool) (places : List ℕ) : Type 0 where
-  pub known : AreKnown s keys hole marks places
-  pub held : (n : ℕ) → number_at places n ≡ 3 → IsSeen s keys flights marks (key_named keys n)
+pub record IsSearched (s : State) (keys : List Entrant) (flights : List Flight) (hole : ℕ → Type 0) (places : List ℕ) : Type 0 where
+  pub known : AreKnown s keys hole places
+  pub held : (n : ℕ) → number_at places n ≡ 3 → IsSeen s keys flights places (key_named keys n)
 
 -- what a look at the next key of the pile 2 came to
-abbrev pub IsTried : State → List Entrant → List Flight → List Bool → List ℕ → Tried → Type 0
-IsTried s keys flights marks places (tries.Open j) = IsJob s keys j × AreKnown s keys no_hole marks places
-IsTried s keys flights marks places tries.Further = IsSearched s keys flights no_hole marks places
-IsTried s keys flights marks places tries.Nothing = IsSearched s keys flights no_hole marks places × IsBare 2 places
+abbrev pub IsTried : State → List Entrant → List Flight → List ℕ → Tried → Type 0
+IsTried s keys flights places (tries.Open j) = IsJob s keys j × AreKnown s keys no_hole places
+IsTried s keys flights places tries.Further = IsSearched s keys flights no_hole places
+IsTried s keys flights places tries.Nothing = IsSearched s keys flights no_hole places × IsBare 2 places
 
--- marked keys that were on no pile are put on the pile 2
-abbrev pub ArePut : List Bool → List ℕ → List ℕ → Type 0
-ArePut marks old new = (n : ℕ) → (number_at new n ≡ number_at old n) ⊎ ((number_at old n ≡ 0) × (number_at new n ≡ 2) × (is_set marks n ≡ true))
+-- these keys are put on the pile 2 where they were on none
+pub record ArePut (rows : List Row) (ks : List Key) (old new : List ℕ) : Type 0 where
+  pub each : (n : ℕ) → HasNumber rows ks n → ¬ (number_at new n ≡ 0)
+  pub only : (n : ℕ) → (number_at new n ≡ number_at old n) ⊎ ((number_at old n ≡ 0) × (number_at new n ≡ 2) × HasNumber rows ks n)
+
+-- one of the first edges, so many, is to the key of the number n
+abbrev pub HasEdge : ℕ → List Edge → ℕ → Type 0
+HasEdge count es n = (i : ℕ) × (i < count) × ((d : Edge) → (slice_index_or es i d).key ≡ n)
+
+-- the marked keys of these edges are put on the pile 2 where they were on none
+pub record AreEdgesPut (count : ℕ) (es : List Edge) (marks : List Bool) (old new : List ℕ) : Type 0 where
+  pub each : (n : ℕ) → HasEdge count es n → is_set marks n ≡ true → ¬ (number_at new n ≡ 0)
+  pub only : (n : ℕ) → (number_at new n ≡ number_at old n) ⊎ ((number_at old n ≡ 0) × (number_at new n ≡ 2) × (is_set marks n ≡ true) × HasEdge count es n)
 
 abbrev pub turns_left : ℕ → ℕ
 turns_left zero = 2
@@ -139,13 +154,7 @@ pub record HasRoom (keys : ℕ) (e : Explored) : Type 0 where
 -- all but the room is as it was
 pub record IsSameKnown (old new : Explored) : Type 0 where
   pub known_is : new.known ≡ old.known
-  pub marks_are : (n : ℕ) → is_set new.marks n ≡ is_set old.marks n
   pub piles_are : (n : ℕ) → number_at new.piles n ≡ number_at old.piles n
-
--- the keys that waited for that of the number n are on the pile 2
-pub record IsUnblocked (n : ℕ) (old new : Explored) : Type 0 where
-  pub marks_are : new.marks ≡ old.marks
-  pub poured : IsPoured (n + 4) 2 old.piles new.piles
 
 -- each text may read a value of this origin at this location
 abbrev pub is_open_origin : Loc → Origin → Bool

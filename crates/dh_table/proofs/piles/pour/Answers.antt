@@ -1,6 +1,6 @@
-use Rattle.std.proofs.Common.{◌≡◌, ◌<◌, ◌∙◌, length, arith, sym, subst as along}
+use Rattle.std.proofs.Common.{◌<◌, length, sym, subst as along}
 use Rattle.std.specs.Prelude.{ℕ, List, slice_set, sum_by}
-use Rattle.dh_table.proofs.Piled.{fewer_on, moved_on, one_if, placed_inside}
+use Rattle.dh_table.proofs.Piled.{moved_on, one_if, placed_inside}
 use Rattle.dh_table.proofs.piles.pour.Goals as goal
 
 pub keys-smaller : goal.keys-smaller

@@ -1,4 +1,4 @@
-use Rattle.std.specs.Prelude.{◌≡◌, ◌⊎◌, ◌≤◌, ℕ, sum_by, length}
+use Rattle.std.specs.Prelude.{◌≡◌, ◌⊎◌, ℕ, sum_by, length}
 use Rattle.dh_table.specs.Inside.Piling.{number_at}
 use Rattle.dh_table.proofs.Piled.{one_if}
 use Rattle.dh_table.proofs.piles.pour.Given as goal

@@ -7,7 +7,7 @@ use Rattle.dh_table.proofs.searches.find_open.Given as goal
 abbrev pub invariant-keys : goal.invariant-keys
 invariant-keys l = record {
   room : HasRoom (length l.keys) l.explored;
-  searched : (s : State) → s.root ≡ term l.root.expr → Stands l.keys l.texts l.looks l.flights s → Knows s l.keys l.fn.explored → IsSearched s l.keys l.flights no_hole l.explored.marks l.explored.piles;
+  searched : (s : State) → s.root ≡ term l.root.expr → Stands l.keys l.texts l.looks l.flights s → Knows s l.keys l.fn.explored → IsSearched s l.keys l.flights no_hole l.explored.piles;
 }
 
 abbrev pub decreases-keys : goal.decreases-keys

@@ -1,4 +1,4 @@
-use Rattle.std.proofs.Common.{rules, ◌≡◌, ◌+◌, ◌≤◌, ◌++◌, ◌∷◌, [], ◌∙◌, ap, length, arith, refl, ℕ}
+use Rattle.std.proofs.Common.{◌∷◌, [], ◌∙◌, ap, length, arith, refl}
 use Rattle.std.proofs.lemmas.List.{length-append}
 use Rattle.dh_table.specs.Inside.Piling.{number_at}
 use Rattle.dh_table.proofs.Piled.{widened, zero_more}

@@ -1,4 +1,4 @@
-use Rattle.std.proofs.Common.{rules, ◌≡◌, sym, subst as along, ◌≤◌, ◌+◌, ℕ, length, vec_len, List, replicate}
+use Rattle.std.proofs.Common.{rules, sym, subst as along, ◌≤◌, ◌+◌, ℕ, length, vec_len, List, replicate}
 use Rattle.dh_table.specs.Inside.Piling.{ArePiled}
 use Rattle.dh_table.proofs.Piled.{cleared}
 use Rattle.dh_table.proofs.piles.Piles.clear.Goals as goal

@@ -1,5 +1,4 @@
-use Rattle.std.proofs.Common.{◌≡◌, refl, length, vec_capacity, sym, subst as along}
-use Rattle.std.specs.Prelude.{◌≤◌}
+use Rattle.std.proofs.Common.{refl, subst as along}
 use Rattle.dh_table.specs.Inside.Searching.{IsFound, Stands}
 use Rattle.dh_table.specs.States.{state_of}
 use Rattle.dh_table.specs.Tables.{view_of}

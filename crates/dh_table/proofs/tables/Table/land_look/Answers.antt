@@ -52,7 +52,7 @@ invariant_of-self-2 g c =
       known = inv.known;
       fit = fit_filtered keys (others serial) t.flights.items _ left inv.fit;
       scratch = inv.scratch;
-      explored = λ h. known_still (state_of v) (state_of next) (step_grows _ _ _ _ (state_of v) (state_of next) (machine.Looked serial digest look) inv.replays (flies, c.tell_good.ensures) state_is) refl refl keys _ _ _ (inv.explored h);
+      explored = λ h. known_still (state_of v) (state_of next) (step_grows _ _ _ _ (state_of v) (state_of next) (machine.Looked serial digest look) inv.replays (flies, c.tell_good.ensures) state_is) refl refl keys _ _ (inv.explored h);
       texts_told = inv.texts_told;
       looks_shelved =
           all-push (λ (l : Look). IsShelved l.digest (g.W.World.shelved l.digest) l.look) t.looks.items _ (record { digest = digest; look = c.args.look })

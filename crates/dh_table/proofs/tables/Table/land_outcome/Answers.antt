@@ -13,7 +13,7 @@ use Rattle.dh_table.specs.declared.steps.Flight.{Flight}
 use Rattle.dh_table.specs.declared.steps.Job.{Job}
 use Rattle.dh_table.specs.declared.steps.Step.TheVariants as steps
 use Rattle.dh_table.specs.Inside.Entering.{decided_at}
-use Rattle.dh_table.specs.Inside.Searching.{HasRoom, IsExploredBy, IsUnblocked, is_open_value}
+use Rattle.dh_table.specs.Inside.Searching.{HasRoom, IsExploredBy, is_open_value}
 use Rattle.dh_table.specs.Items.{stage_of_item}
 use Rattle.dh_table.specs.Shown.{Shown}
 use Rattle.dh_table.specs.States.{IsReplayed, limit_by, rows_of, key_named, state_of, news_of, step_by}
@@ -61,7 +61,6 @@ invariant_of-self g c =
     let room : vec_len t.flights + 1 ≤ v.spare = search rules in
     let explored = c.free.new.self in
     let roomy : HasRoom (length keys) explored = c.free.ensures.room (length keys) inv.scratch.explored in
-    let unblocked : IsUnblocked n t.scratch.explored explored = c.free.ensures.unblocked in
     let may : May e s = (in_time, is_done s i o done.limited (ap (λ k. limit_at s.recorded k) (sym named) ∙ unlimited) c.is_last.ensures) in
     let of_key : Key → machine.Event = λ k. machine.Finished serial k (stage_of_item i) (limit_by done.limited o) (plain o) in
     let opens : explored.known ≡ true → is_open_value (key_named keys n).loc o ≡ true = λ h. search rules in
@@ -83,7 +82,7 @@ invariant_of-self g c =
           λ h.
           along (λ es. IsExploredBy (state_of next) es explored) (sym keys_is)
           (known_decided _ _ _ _ s (state_of next) serial (stage_of_item i) (limit_by done.limited o) keys n o inside d inv.replays
-          (along (λ (k : Key). May (of_key k) s) (sym named) may) (state_is ∙ ap (λ (k : Key). machine.effect (of_key k) s) (sym named)) undecided (opens h) t.scratch.explored explored unblocked (inv.explored (c.free.ensures.known h)));
+          (along (λ (k : Key). May (of_key k) s) (sym named) may) (state_is ∙ ap (λ (k : Key). machine.effect (of_key k) s) (sym named)) undecided (opens h) t.scratch.explored explored c.free.ensures.poured (inv.explored (c.free.ensures.known h)));
       texts_told = inv.texts_told;
       looks_shelved = inv.looks_shelved;
       text_order = inv.text_order;
