@@ -4,23 +4,13 @@
 ghost use Rattle.std.specs.Prelude.{◌≡◌, ◌+◌, ◌≤◌, ◌<◌, ◌++◌, ◌∷◌, [], true, false, None, map, All, Any, MatchOption, vec_len, vec_capacity};
 ghost use Rattle.dh_shared.specs.Held.{none_held};
 
-use dh_shared::Seat;
-use std::sync::ledger::Ledger;
+use dh_shared::{Run, Seat};
 
 /// A desk with a seat, and whether the worker there ended well.
 #[derive(Drop)]
-pub(crate) struct Place<
-    D,
-    C: Ledger,
-    K: Ledger,
-    R: Ledger,
-    L: Ledger,
-    F: Ledger,
-    X: Ledger,
-    O: Ledger,
-> {
+pub(crate) struct Place<D, Q: Run> {
     pub(crate) desk: D,
-    pub(crate) seat: Seat<C, K, R, L, F, X, O>,
+    pub(crate) seat: Seat<Q>,
     pub(crate) done: bool,
 }
 
@@ -57,9 +47,7 @@ fn take_first<T>(v: &mut Vec<T>) -> T
 }
 
 /// Takes the last seat.
-fn take_seat<C: Ledger, K: Ledger, R: Ledger, L: Ledger, F: Ledger, X: Ledger, O: Ledger>(
-    seats: &mut Vec<Seat<C, K, R, L, F, X, O>>,
-) -> Option<Seat<C, K, R, L, F, X, O>>
+fn take_seat<Q: Run>(seats: &mut Vec<Seat<Q>>) -> Option<Seat<Q>>
     requires { All (λ seat. seat.shares ≡ none_held 1) seats.old.items }
     ensures rest { All (λ seat. seat.shares ≡ none_held 1) seats.new.items }
     ensures taken { MatchOption result (vec_len seats.old ≡ 0) (λ seat. seat.shares ≡ none_held 1) }
@@ -72,19 +60,10 @@ fn take_seat<C: Ledger, K: Ledger, R: Ledger, L: Ledger, F: Ledger, X: Ledger, O
 
 /// Moves the first desks, each with a seat, into places.
 #[tactic(auto, using(crate::proofs::Moves::moved))]
-pub(crate) fn seat_desks<
-    D: Drop,
-    C: Ledger,
-    K: Ledger,
-    R: Ledger,
-    L: Ledger,
-    F: Ledger,
-    X: Ledger,
-    O: Ledger,
->(
+pub(crate) fn seat_desks<D: Drop, Q: Run>(
     desks: &mut Vec<D>,
-    seats: &mut Vec<Seat<C, K, R, L, F, X, O>>,
-    places: &mut Vec<Place<D, C, K, R, L, F, X, O>>,
+    seats: &mut Vec<Seat<Q>>,
+    places: &mut Vec<Place<D, Q>>,
 )
     requires desks { vec_len seats.old ≤ vec_len desks.old }
     requires room { vec_len places.old + vec_len seats.old ≤ vec_capacity places.old }
@@ -114,19 +93,10 @@ pub(crate) fn seat_desks<
 
 /// Moves the desks and the seats of places back, in front of those that are left.
 #[tactic(auto, using(crate::proofs::Moves::moved))]
-pub(crate) fn stand_again<
-    D: Drop,
-    C: Ledger,
-    K: Ledger,
-    R: Ledger,
-    L: Ledger,
-    F: Ledger,
-    X: Ledger,
-    O: Ledger,
->(
+pub(crate) fn stand_again<D: Drop, Q: Run>(
     desks: &mut Vec<D>,
-    seats: &mut Vec<Seat<C, K, R, L, F, X, O>>,
-    places: Vec<Place<D, C, K, R, L, F, X, O>>,
+    seats: &mut Vec<Seat<Q>>,
+    places: Vec<Place<D, Q>>,
 )
     requires room { vec_len desks.old + vec_len places ≤ vec_capacity desks.old }
     requires room_seats { vec_len seats.old + vec_len places ≤ vec_capacity seats.old }
@@ -148,16 +118,7 @@ pub(crate) fn stand_again<
 }
 
 /// Whether all workers ended well.
-pub(crate) fn all_done<
-    D,
-    C: Ledger,
-    K: Ledger,
-    R: Ledger,
-    L: Ledger,
-    F: Ledger,
-    X: Ledger,
-    O: Ledger,
->(places: &Vec<Place<D, C, K, R, L, F, X, O>>) -> bool
+pub(crate) fn all_done<D, Q: Run>(places: &Vec<Place<D, Q>>) -> bool
     ensures done { result ≡ true → All (λ p. p.done ≡ true) places.now.items }
     ensures undone { result ≡ false → Any (λ p. p.done ≡ false) places.now.items }
 {

@@ -16,35 +16,21 @@ use crate::answers::{Answered, SessionFault, answer_of};
 use crate::places::{Place, all_done, seat_desks, stand_again};
 use crate::workers::worker;
 use dh_ports::{Desk, Gate, World};
-use dh_shared::{Blanks, Rooted, SharedTable};
+use dh_shared::{Blanks, Run, SharedTable};
 use dh_syntax::Expr;
 use dh_table::Table;
 use std::alloc::{AllocError, Global};
 use std::marker::Brand;
 use std::sync::Wait;
-use std::sync::ledger::Ledger;
 use std::thread;
 use std::thread::Threads;
 
 /// The worker of one place.
-fn work_at<
-    T: Wait,
-    W: World,
-    D: Desk<W>,
-    G: Gate,
-    Q: Rooted,
-    C: Ledger,
-    K: Ledger,
-    R: Ledger,
-    L: Ledger,
-    F: Ledger,
-    X: Ledger,
-    O: Ledger,
->(
+fn work_at<T: Wait, W: World, D: Desk<W>, G: Gate, Q: Run>(
     rt: &T,
     alloc: Global,
-    shared: &SharedTable<W, Q, C, K, R, L, F, X, O>,
-    place: &mut Place<D, C, K, R, L, F, X, O>,
+    shared: &SharedTable<W, Q>,
+    place: &mut Place<D, Q>,
     gate: &G,
 )
     ensures { Goes place.new.done (D.asked place.old.desk) (D.asked place.new.desk) (D.faults place.old.desk) (D.faults place.new.desk) (D.filed place.old.desk) (D.filed place.new.desk) place.old.seat.shares place.new.seat.shares }
@@ -60,19 +46,12 @@ fn work_all<
     W: World + Send + Sync,
     D: Desk<W> + Send,
     G: Gate + Sync,
-    Q: Rooted + Send + Sync,
-    C: Ledger + Send + Sync,
-    K: Ledger + Send + Sync,
-    R: Ledger + Send + Sync,
-    L: Ledger + Send + Sync,
-    F: Ledger + Send + Sync,
-    X: Ledger + Send + Sync,
-    O: Ledger + Send + Sync,
+    Q: Run + Send + Sync,
 >(
     rt: &T,
     alloc: Global,
-    shared: &SharedTable<W, Q, C, K, R, L, F, X, O>,
-    places: &mut [Place<D, C, K, R, L, F, X, O>],
+    shared: &SharedTable<W, Q>,
+    places: &mut [Place<D, Q>],
     workers: u32,
     gate: &G,
 )
@@ -92,19 +71,12 @@ fn work_places<
     W: World + Send + Sync,
     D: Desk<W> + Send,
     G: Gate + Sync,
-    Q: Rooted + Send + Sync,
-    C: Ledger + Send + Sync,
-    K: Ledger + Send + Sync,
-    R: Ledger + Send + Sync,
-    L: Ledger + Send + Sync,
-    F: Ledger + Send + Sync,
-    X: Ledger + Send + Sync,
-    O: Ledger + Send + Sync,
+    Q: Run + Send + Sync,
 >(
     rt: &T,
     alloc: Global,
-    shared: &SharedTable<W, Q, C, K, R, L, F, X, O>,
-    places: &mut Vec<Place<D, C, K, R, L, F, X, O>>,
+    shared: &SharedTable<W, Q>,
+    places: &mut Vec<Place<D, Q>>,
     workers: u32,
     gate: &G,
 )
@@ -122,14 +94,7 @@ fn run<
     W: World + Send + Sync,
     D: Desk<W> + Send + Drop,
     G: Gate + Sync,
-    Q: Rooted + Send + Sync,
-    C: Ledger + Send + Sync,
-    K: Ledger + Send + Sync,
-    R: Ledger + Send + Sync,
-    L: Ledger + Send + Sync,
-    F: Ledger + Send + Sync,
-    X: Ledger + Send + Sync,
-    O: Ledger + Send + Sync,
+    Q: Run + Send + Sync,
 >(
     rt: &T,
     alloc: Global,
@@ -142,22 +107,15 @@ fn run<
     requires some { (0 < workers) × (workers ≤ vec_len desks.old) }
     requires fresh { (table.history ≡ []) × (failures (state_of table) ≡ 0) }
     requires root { table.root.expr ≡ Q.root }
-    requires claims { (blanks.claims.name ≡ C.name) × (blanks.claims.parts ≡ C.parts) × (C.parts ≡ workers) }
-    requires kept { (blanks.kept.name ≡ K.name) × (blanks.kept.parts ≡ K.parts) × (K.parts ≡ workers) }
-    requires releases { (blanks.releases.name ≡ R.name) × (blanks.releases.parts ≡ R.parts) × (R.parts ≡ workers) }
-    requires lates { (blanks.lates.name ≡ L.name) × (blanks.lates.parts ≡ L.parts) × (L.parts ≡ workers) }
-    requires fetches { (blanks.fetches.name ≡ F.name) × (blanks.fetches.parts ≡ F.parts) × (F.parts ≡ workers) }
-    requires failed { (blanks.failed.name ≡ X.name) × (blanks.failed.parts ≡ X.parts) × (X.parts ≡ workers) }
-    requires overs { (blanks.overs.name ≡ O.name) × (blanks.overs.parts ≡ O.parts) × (O.parts ≡ workers) }
+    requires blanks { blanks ≡ Q.ledgers }
+    requires parts { Q.ledgers.parts ≡ workers }
     ensures count { vec_len desks.new ≡ vec_len desks.old }
     ensures filed { map (λ d. D.filed d) desks.new.items ≡ map (λ d. D.filed d) desks.old.items }
     ensures root { IfOk result (λ t. t.root.expr ≡ Q.root) }
     ensures counted { IfOk result (λ t. NoneFell (map (λ d. D.faults d) desks.old.items) (map (λ d. D.faults d) desks.new.items)) }
     ensures ends { IfOk result (λ t. Ends (λ d. D.asked d) (λ d. D.faults d) desks.old.items desks.new.items t) }
 {
-    let (shared, seats) = SharedTable::<W, Q, C, K, R, L, F, X, O>::open(
-        alloc, table, workers, blanks,
-    )?;
+    let (shared, seats) = SharedTable::<W, Q>::open(alloc, table, workers, blanks)?;
     let mut seats = seats;
     let mut places = Vec::with_capacity(alloc, workers as usize)?;
     seat_desks(desks, &mut seats, &mut places);
@@ -202,8 +160,6 @@ pub fn resolve_all<
 {
     let table = Table::open(alloc, root)?;
     let blanks = Blanks::new(u64::from(workers));
-    let closed = run::<R, W, D, G, Brand, Brand, Brand, Brand, Brand, Brand, Brand, Brand>(
-        rt, alloc, blanks, desks, workers, table, gate,
-    )?;
+    let closed = run::<R, W, D, G, Brand>(rt, alloc, blanks, desks, workers, table, gate)?;
     answer_of(alloc, closed)
 }

@@ -8,12 +8,11 @@ ghost use Rattle.dh_session.specs.Inside.{asked_after, failures_told};
 ghost use Rattle.dh_session.specs.Works.{Asks, Fails, FreesLate, EndsEarly};
 
 use dh_ports::{Desk, Gate, World};
-use dh_shared::{Rooted, Seat, SharedTable, Turn};
+use dh_shared::{Run, Seat, SharedTable, Turn};
 use dh_table::{News, Taken, Ticket, Work};
 use dh_work::{fetch_text, look_up, work_item};
 use std::alloc::{AllocError, Global};
 use std::sync::Wait;
-use std::sync::ledger::Ledger;
 
 /// What the task comes to. A fetch passes the gate first.
 #[tactic(auto, using(crate::proofs::Bringing::text_brings, crate::proofs::Bringing::look_brings, crate::proofs::Bringing::outcome_tells))]
@@ -41,21 +40,10 @@ fn bring<W: World, D: Desk<W>, G: Gate>(
 }
 
 /// Delivers news. A ticket that comes back is given back to the table.
-fn hand_in<
-    T: Wait,
-    W: World,
-    Q: Rooted,
-    C: Ledger,
-    K: Ledger,
-    R: Ledger,
-    L: Ledger,
-    F: Ledger,
-    X: Ledger,
-    O: Ledger,
->(
+fn hand_in<T: Wait, W: World, Q: Run>(
     rt: &T,
-    shared: &SharedTable<W, Q, C, K, R, L, F, X, O>,
-    seat: &mut Seat<C, K, R, L, F, X, O>,
+    shared: &SharedTable<W, Q>,
+    seat: &mut Seat<Q>,
     ticket: Ticket,
     news: News,
 ) -> Result<(), AllocError>
@@ -82,24 +70,11 @@ fn hand_in<
 
 /// Works on a task and delivers what it comes to. Where memory is wanting for that, the ticket is given back.
 #[tactic(auto, using(crate::proofs::Counting::fails_by, crate::proofs::Counting::fails_none))]
-fn carry_out<
-    T: Wait,
-    W: World,
-    D: Desk<W>,
-    G: Gate,
-    Q: Rooted,
-    C: Ledger,
-    K: Ledger,
-    R: Ledger,
-    L: Ledger,
-    F: Ledger,
-    X: Ledger,
-    O: Ledger,
->(
+fn carry_out<T: Wait, W: World, D: Desk<W>, G: Gate, Q: Run>(
     rt: &T,
     alloc: Global,
-    shared: &SharedTable<W, Q, C, K, R, L, F, X, O>,
-    seat: &mut Seat<C, K, R, L, F, X, O>,
+    shared: &SharedTable<W, Q>,
+    seat: &mut Seat<Q>,
     desk: &mut D,
     gate: &G,
     ticket: Ticket,
@@ -128,24 +103,11 @@ fn carry_out<
 /// decided. Where memory is wanting it gives its ticket back and ends; after news that came late it gives its ticket back and goes
 /// on.
 #[tactic(auto, using(crate::proofs::Counting::asks_after, crate::proofs::Counting::fails_after))]
-pub fn worker<
-    T: Wait,
-    W: World,
-    D: Desk<W>,
-    G: Gate,
-    Q: Rooted,
-    C: Ledger,
-    K: Ledger,
-    R: Ledger,
-    L: Ledger,
-    F: Ledger,
-    X: Ledger,
-    O: Ledger,
->(
+pub fn worker<T: Wait, W: World, D: Desk<W>, G: Gate, Q: Run>(
     rt: &T,
     alloc: Global,
-    shared: &SharedTable<W, Q, C, K, R, L, F, X, O>,
-    seat: &mut Seat<C, K, R, L, F, X, O>,
+    shared: &SharedTable<W, Q>,
+    seat: &mut Seat<Q>,
     desk: &mut D,
     gate: &G,
 ) -> Result<(), AllocError>

@@ -1,6 +1,6 @@
-pub mod AllParts
 pub mod Closed
 pub mod Counting
 pub mod Held
 pub mod Inside
+pub mod Ledgers
 pub mod Turns

@@ -2,54 +2,25 @@
 
 ghost use Rattle.std.specs.Prelude.{◌≡◌, ℕ, ◌+◌, ◌≤◌, ◌<◌, cond};
 ghost use Rattle.dh_shared.specs.Held.{none_held, both, with_claim, with_kept, with_release, with_late, with_over};
-ghost use Rattle.dh_shared.specs.AllParts.{AllParts};
 
+use crate::ledgers::{Blanks, Claims, Failed, Fetches, Kept, Lates, Overs, Releases};
+use crate::runs::Run;
 use std::marker::Model;
-use std::sync::ledger::{Blank, Book, Ledger, Share};
-
-/// Seven new ledgers. They have no parameters, so that one function can make them and another can name their ledgers.
-#[derive(Drop)]
-pub struct Blanks {
-    pub claims: Blank,
-    pub kept: Blank,
-    pub releases: Blank,
-    pub lates: Blank,
-    pub fetches: Blank,
-    pub failed: Blank,
-    pub overs: Blank,
-}
-
-impl Blanks {
-    /// Seven ledgers of so many parts.
-    pub fn new(workers: u64) -> Blanks
-        ensures { AllParts result workers }
-    {
-        Blanks {
-            claims: Blank::new(workers),
-            kept: Blank::new(workers),
-            releases: Blank::new(workers),
-            lates: Blank::new(workers),
-            fetches: Blank::new(workers),
-            failed: Blank::new(workers),
-            overs: Blank::new(workers),
-        }
-    }
-}
+use std::sync::ledger::{Book, Share};
 
 /// The seven books: what all workers together have counted.
 #[derive(Drop)]
-pub struct Books<C: Ledger, K: Ledger, R: Ledger, L: Ledger, F: Ledger, X: Ledger, O: Ledger> {
-    claims: Book<C>,
-    kept: Book<K>,
-    releases: Book<R>,
-    lates: Book<L>,
-    fetches: Book<F>,
-    failed: Book<X>,
-    overs: Book<O>,
+pub struct Books<Q: Run> {
+    claims: Book<Claims<Q>>,
+    kept: Book<Kept<Q>>,
+    releases: Book<Releases<Q>>,
+    lates: Book<Lates<Q>>,
+    fetches: Book<Fetches<Q>>,
+    failed: Book<Failed<Q>>,
+    overs: Book<Overs<Q>>,
 }
 
-impl<C: Ledger, K: Ledger, R: Ledger, L: Ledger, F: Ledger, X: Ledger, O: Ledger> Model
-    for Books<C, K, R, L, F, X, O> {
+impl<Q: Run> Model for Books<Q> {
     ghost use Rattle.dh_shared.specs.Held.{Held};
 
     ghost Value = { Held };
@@ -59,18 +30,17 @@ impl<C: Ledger, K: Ledger, R: Ledger, L: Ledger, F: Ledger, X: Ledger, O: Ledger
 
 /// The same number of parts of each of the seven, with what was counted on them.
 #[derive(Drop)]
-pub struct Shares<C: Ledger, K: Ledger, R: Ledger, L: Ledger, F: Ledger, X: Ledger, O: Ledger> {
-    claims: Share<C>,
-    kept: Share<K>,
-    releases: Share<R>,
-    lates: Share<L>,
-    fetches: Share<F>,
-    failed: Share<X>,
-    overs: Share<O>,
+pub struct Shares<Q: Run> {
+    claims: Share<Claims<Q>>,
+    kept: Share<Kept<Q>>,
+    releases: Share<Releases<Q>>,
+    lates: Share<Lates<Q>>,
+    fetches: Share<Fetches<Q>>,
+    failed: Share<Failed<Q>>,
+    overs: Share<Overs<Q>>,
 }
 
-impl<C: Ledger, K: Ledger, R: Ledger, L: Ledger, F: Ledger, X: Ledger, O: Ledger> Model
-    for Shares<C, K, R, L, F, X, O> {
+impl<Q: Run> Model for Shares<Q> {
     ghost use Rattle.std.specs.Prelude.{◌≡◌};
     ghost use Rattle.dh_shared.specs.Held.{Held};
 
@@ -83,33 +53,17 @@ impl<C: Ledger, K: Ledger, R: Ledger, L: Ledger, F: Ledger, X: Ledger, O: Ledger
 
 /// The seat of one worker: one part of each ledger.
 #[derive(Drop)]
-pub struct Seat<C: Ledger, K: Ledger, R: Ledger, L: Ledger, F: Ledger, X: Ledger, O: Ledger> {
+pub struct Seat<Q: Run> {
     pub(crate) worker: u32,
-    pub(crate) shares: Shares<C, K, R, L, F, X, O>,
+    pub(crate) shares: Shares<Q>,
     ghost one: { shares.parts ≡ 1 },
 }
 
-impl<C: Ledger, K: Ledger, R: Ledger, L: Ledger, F: Ledger, X: Ledger, O: Ledger> Books<
-    C,
-    K,
-    R,
-    L,
-    F,
-    X,
-    O,
-> {
+impl<Q: Run> Books<Q> {
     /// Opens the books, and the shares that hold all of their parts.
-    pub fn open(
-        blanks: Blanks,
-        workers: u64,
-    ) -> (Books<C, K, R, L, F, X, O>, Shares<C, K, R, L, F, X, O>)
-        requires claims { (blanks.claims.name ≡ C.name) × (blanks.claims.parts ≡ C.parts) × (C.parts ≡ workers) }
-        requires kept { (blanks.kept.name ≡ K.name) × (blanks.kept.parts ≡ K.parts) × (K.parts ≡ workers) }
-        requires releases { (blanks.releases.name ≡ R.name) × (blanks.releases.parts ≡ R.parts) × (R.parts ≡ workers) }
-        requires lates { (blanks.lates.name ≡ L.name) × (blanks.lates.parts ≡ L.parts) × (L.parts ≡ workers) }
-        requires fetches { (blanks.fetches.name ≡ F.name) × (blanks.fetches.parts ≡ F.parts) × (F.parts ≡ workers) }
-        requires failed { (blanks.failed.name ≡ X.name) × (blanks.failed.parts ≡ X.parts) × (X.parts ≡ workers) }
-        requires overs { (blanks.overs.name ≡ O.name) × (blanks.overs.parts ≡ O.parts) × (O.parts ≡ workers) }
+    pub fn open(blanks: Blanks, workers: u64) -> (Books<Q>, Shares<Q>)
+        requires blanks { blanks ≡ Q.ledgers }
+        requires parts { Q.ledgers.parts ≡ workers }
         ensures books { result.0 ≡ none_held 0 }
         ensures shares { result.1 ≡ none_held workers }
     {
@@ -122,13 +76,13 @@ impl<C: Ledger, K: Ledger, R: Ledger, L: Ledger, F: Ledger, X: Ledger, O: Ledger
             failed,
             overs,
         } = blanks;
-        let (claims, my_claims) = claims.open::<C>();
-        let (kept, my_kept) = kept.open::<K>();
-        let (releases, my_releases) = releases.open::<R>();
-        let (lates, my_lates) = lates.open::<L>();
-        let (fetches, my_fetches) = fetches.open::<F>();
-        let (failed, my_failed) = failed.open::<X>();
-        let (overs, my_overs) = overs.open::<O>();
+        let (claims, my_claims) = claims.open();
+        let (kept, my_kept) = kept.open();
+        let (releases, my_releases) = releases.open();
+        let (lates, my_lates) = lates.open();
+        let (fetches, my_fetches) = fetches.open();
+        let (failed, my_failed) = failed.open();
+        let (overs, my_overs) = overs.open();
         (
             Books {
                 claims,
@@ -152,7 +106,7 @@ impl<C: Ledger, K: Ledger, R: Ledger, L: Ledger, F: Ledger, X: Ledger, O: Ledger
     }
 
     /// Counts a claim, and whether it is that of a fetch.
-    pub fn add_claim(&mut self, mine: &mut Shares<C, K, R, L, F, X, O>, fetch: bool)
+    pub fn add_claim(&mut self, mine: &mut Shares<Q>, fetch: bool)
         requires { 0 < mine.old.parts }
         ensures books { self.new ≡ with_claim self.old (cond fetch 1 0) }
         ensures shares { mine.new ≡ with_claim mine.old (cond fetch 1 0) }
@@ -162,7 +116,7 @@ impl<C: Ledger, K: Ledger, R: Ledger, L: Ledger, F: Ledger, X: Ledger, O: Ledger
     }
 
     /// Counts a delivery that was kept, and whether it told a failure.
-    pub fn add_kept(&mut self, mine: &mut Shares<C, K, R, L, F, X, O>, failed: bool)
+    pub fn add_kept(&mut self, mine: &mut Shares<Q>, failed: bool)
         requires { 0 < mine.old.parts }
         ensures books { self.new ≡ with_kept self.old (cond failed 1 0) }
         ensures shares { mine.new ≡ with_kept mine.old (cond failed 1 0) }
@@ -172,7 +126,7 @@ impl<C: Ledger, K: Ledger, R: Ledger, L: Ledger, F: Ledger, X: Ledger, O: Ledger
     }
 
     /// Counts a release.
-    pub fn add_release(&mut self, mine: &mut Shares<C, K, R, L, F, X, O>)
+    pub fn add_release(&mut self, mine: &mut Shares<Q>)
         requires { 0 < mine.old.parts }
         ensures books { self.new ≡ with_release self.old }
         ensures shares { mine.new ≡ with_release mine.old }
@@ -181,7 +135,7 @@ impl<C: Ledger, K: Ledger, R: Ledger, L: Ledger, F: Ledger, X: Ledger, O: Ledger
     }
 
     /// Counts a delivery that came late.
-    pub fn add_late(&mut self, mine: &mut Shares<C, K, R, L, F, X, O>)
+    pub fn add_late(&mut self, mine: &mut Shares<Q>)
         requires { 0 < mine.old.parts }
         ensures books { self.new ≡ with_late self.old }
         ensures shares { mine.new ≡ with_late mine.old }
@@ -190,7 +144,7 @@ impl<C: Ledger, K: Ledger, R: Ledger, L: Ledger, F: Ledger, X: Ledger, O: Ledger
     }
 
     /// Counts a claim that found the run over.
-    pub fn add_over(&mut self, mine: &mut Shares<C, K, R, L, F, X, O>)
+    pub fn add_over(&mut self, mine: &mut Shares<Q>)
         requires { 0 < mine.old.parts }
         ensures books { self.new ≡ with_over self.old }
         ensures shares { mine.new ≡ with_over mine.old }
@@ -199,8 +153,8 @@ impl<C: Ledger, K: Ledger, R: Ledger, L: Ledger, F: Ledger, X: Ledger, O: Ledger
     }
 
     /// With every part the shares are the books.
-    pub fn audit(&mut self, all: &mut Shares<C, K, R, L, F, X, O>)
-        requires { (all.old.parts ≡ C.parts) × (all.old.parts ≡ K.parts) × (all.old.parts ≡ R.parts) × (all.old.parts ≡ L.parts) × (all.old.parts ≡ F.parts) × (all.old.parts ≡ X.parts) × (all.old.parts ≡ O.parts) }
+    pub fn audit(&mut self, all: &mut Shares<Q>)
+        requires { all.old.parts ≡ Q.ledgers.parts }
         ensures books { self.new ≡ self.old }
         ensures shares { all.new ≡ all.old }
         ensures same { record all.old { parts = 0 } ≡ self.old }
@@ -215,17 +169,9 @@ impl<C: Ledger, K: Ledger, R: Ledger, L: Ledger, F: Ledger, X: Ledger, O: Ledger
     }
 }
 
-impl<C: Ledger, K: Ledger, R: Ledger, L: Ledger, F: Ledger, X: Ledger, O: Ledger> Shares<
-    C,
-    K,
-    R,
-    L,
-    F,
-    X,
-    O,
-> {
+impl<Q: Run> Shares<Q> {
     /// One part of each, with no amount.
-    pub fn split_one(&mut self) -> Shares<C, K, R, L, F, X, O>
+    pub fn split_one(&mut self) -> Shares<Q>
         requires { (0 < self.old.parts) × (self.old ≡ none_held self.old.parts) }
         ensures one { result ≡ none_held 1 }
         ensures rest { (self.new.parts + 1 ≡ self.old.parts) × (self.new ≡ none_held self.new.parts) }
@@ -242,7 +188,7 @@ impl<C: Ledger, K: Ledger, R: Ledger, L: Ledger, F: Ledger, X: Ledger, O: Ledger
     }
 
     /// Takes other shares in.
-    pub fn merge(&mut self, other: Shares<C, K, R, L, F, X, O>)
+    pub fn merge(&mut self, other: Shares<Q>)
         ensures { self.new ≡ both self.old other }
     {
         let Shares {
@@ -264,17 +210,9 @@ impl<C: Ledger, K: Ledger, R: Ledger, L: Ledger, F: Ledger, X: Ledger, O: Ledger
     }
 }
 
-impl<C: Ledger, K: Ledger, R: Ledger, L: Ledger, F: Ledger, X: Ledger, O: Ledger> Seat<
-    C,
-    K,
-    R,
-    L,
-    F,
-    X,
-    O,
-> {
+impl<Q: Run> Seat<Q> {
     /// Its shares.
-    pub fn into_shares(self) -> Shares<C, K, R, L, F, X, O>
+    pub fn into_shares(self) -> Shares<Q>
         ensures one { result.parts ≡ 1 }
         ensures same { result ≡ self.shares }
     {

@@ -15,12 +15,14 @@
 
 mod books;
 mod calls;
+mod ledgers;
 mod locks;
-mod roots;
+mod runs;
 mod shared_tables;
 mod turns;
 
-pub use books::{Blanks, Seat, Shares};
-pub use roots::Rooted;
+pub use books::{Seat, Shares};
+pub use ledgers::Blanks;
+pub use runs::Run;
 pub use shared_tables::SharedTable;
 pub use turns::Turn;

@@ -11,30 +11,19 @@ ghost use Rattle.dh_shared.specs.Turns.{Turns, Hands, Frees, Brings};
 
 use crate::books::{Books, Seat};
 use crate::calls::{draw, hand_in, is_fetch, put_back, tells_failure, work_of};
-use crate::roots::Rooted;
+use crate::runs::Run;
 use crate::turns::Turn;
 use dh_ports::World;
 use dh_table::{Claimed, News, Table, Taken, Ticket};
 use std::alloc::Global;
 use std::marker::PhantomData;
-use std::sync::ledger::Ledger;
 
 /// The table of this root with the books: each book has the number of steps of its kind that the history has.
 #[derive(Drop)]
-pub struct Locked<
-    W: World,
-    Q: Rooted,
-    C: Ledger,
-    K: Ledger,
-    R: Ledger,
-    L: Ledger,
-    F: Ledger,
-    X: Ledger,
-    O: Ledger,
-> {
+pub struct Locked<W: World, Q: Run> {
     pub(crate) alloc: Global,
     pub(crate) table: Table<W>,
-    pub(crate) books: Books<C, K, R, L, F, X, O>,
+    pub(crate) books: Books<Q>,
     pub(crate) of: PhantomData<Q>,
     ghost root_in: { table.root.expr ≡ Q.root } by { Prim.hlevel (codes, rows.the_row.coded) },
     ghost claims_in: { count_by is_claim table.history ≡ books.claims },
@@ -46,19 +35,9 @@ pub struct Locked<
     ghost over_in: { 0 < books.overs → IsSome (root_end (state_of table)) },
 }
 
-impl<
-    W: World,
-    Q: Rooted,
-    C: Ledger,
-    K: Ledger,
-    R: Ledger,
-    L: Ledger,
-    F: Ledger,
-    X: Ledger,
-    O: Ledger,
-> Locked<W, Q, C, K, R, L, F, X, O> {
+impl<W: World, Q: Run> Locked<W, Q> {
     /// One claim.
-    pub(crate) fn claim(&mut self, seat: &mut Seat<C, K, R, L, F, X, O>) -> Turn
+    pub(crate) fn claim(&mut self, seat: &mut Seat<Q>) -> Turn
         ensures turn { Turns seat.old.shares seat.new.shares result }
         ensures worker { seat.new.worker ≡ seat.old.worker }
     {
@@ -71,7 +50,7 @@ impl<
         self.claim_within(seat)
     }
 
-    fn claim_within(&mut self, seat: &mut Seat<C, K, R, L, F, X, O>) -> Turn
+    fn claim_within(&mut self, seat: &mut Seat<Q>) -> Turn
         requires { length self.old.table.flights + 3 ≤ self.old.table.spare }
         ensures turn { Turns seat.old.shares seat.new.shares result }
         ensures worker { seat.new.worker ≡ seat.old.worker }
@@ -110,7 +89,7 @@ impl<
     }
 
     /// One release, or none where the serial is not in flight.
-    pub(crate) fn release(&mut self, seat: &mut Seat<C, K, R, L, F, X, O>, ticket: Ticket)
+    pub(crate) fn release(&mut self, seat: &mut Seat<Q>, ticket: Ticket)
         ensures frees { Frees seat.old.shares seat.new.shares }
         ensures worker { seat.new.worker ≡ seat.old.worker }
     {
@@ -126,12 +105,7 @@ impl<
     }
 
     /// One delivery, or none where memory is wanting.
-    pub(crate) fn deliver(
-        &mut self,
-        seat: &mut Seat<C, K, R, L, F, X, O>,
-        ticket: Ticket,
-        news: News,
-    ) -> Taken
+    pub(crate) fn deliver(&mut self, seat: &mut Seat<Q>, ticket: Ticket, news: News) -> Taken
         requires { Brings W.told W.shelved news }
         ensures hands { Hands seat.old.shares seat.new.shares news result }
         ensures worker { seat.new.worker ≡ seat.old.worker }
@@ -145,12 +119,7 @@ impl<
         self.deliver_within(seat, ticket, news)
     }
 
-    fn deliver_within(
-        &mut self,
-        seat: &mut Seat<C, K, R, L, F, X, O>,
-        ticket: Ticket,
-        news: News,
-    ) -> Taken
+    fn deliver_within(&mut self, seat: &mut Seat<Q>, ticket: Ticket, news: News) -> Taken
         requires brings { Brings W.told W.shelved news }
         requires room { length self.old.table.flights + 1 ≤ self.old.table.spare }
         ensures hands { Hands seat.old.shares seat.new.shares news result }

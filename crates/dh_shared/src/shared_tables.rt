@@ -7,68 +7,37 @@ ghost use Rattle.dh_shared.specs.Closed.{Closes};
 ghost use Rattle.dh_shared.specs.Held.{none_held, sum_held};
 ghost use Rattle.dh_shared.specs.Turns.{Turns, Hands, Frees, Brings};
 
-use crate::books::{Blanks, Books, Seat, Shares};
+use crate::books::{Books, Seat, Shares};
+use crate::ledgers::Blanks;
 use crate::locks::Locked;
-use crate::roots::Rooted;
+use crate::runs::Run;
 use crate::turns::Turn;
 use dh_ports::World;
 use dh_table::{News, Table, Taken, Ticket};
 use std::alloc::{AllocError, Global};
 use std::marker::PhantomData;
-use std::sync::ledger::Ledger;
 use std::sync::{Condvar, Mutex, Wait};
 
 /// The table of one run under one lock, with its seven books. It is of the root of `Q` from its first step to its last.
 #[derive(Drop)]
-pub struct SharedTable<
-    W: World,
-    Q: Rooted,
-    C: Ledger,
-    K: Ledger,
-    R: Ledger,
-    L: Ledger,
-    F: Ledger,
-    X: Ledger,
-    O: Ledger,
-> {
-    locked: Mutex<Locked<W, Q, C, K, R, L, F, X, O>>,
+pub struct SharedTable<W: World, Q: Run> {
+    locked: Mutex<Locked<W, Q>>,
     changed: Condvar,
 }
 
-impl<
-    W: World,
-    Q: Rooted,
-    C: Ledger,
-    K: Ledger,
-    R: Ledger,
-    L: Ledger,
-    F: Ledger,
-    X: Ledger,
-    O: Ledger,
-> SharedTable<W, Q, C, K, R, L, F, X, O> {
+impl<W: World, Q: Run> SharedTable<W, Q> {
     /// Puts a table before its first step under a lock, with a seat for each worker.
     pub fn open(
         alloc: Global,
         table: Table<W>,
         workers: u32,
         blanks: Blanks,
-    ) -> Result<
-        (
-            SharedTable<W, Q, C, K, R, L, F, X, O>,
-            Vec<Seat<C, K, R, L, F, X, O>>,
-        ),
-        AllocError,
-    >
+    ) -> Result<(SharedTable<W, Q>, Vec<Seat<Q>>), AllocError>
         requires fresh { (table.history ≡ []) × (failures (state_of table) ≡ 0) }
         requires root { table.root.expr ≡ Q.root }
         requires some { 0 < workers }
-        requires claims { (blanks.claims.name ≡ C.name) × (blanks.claims.parts ≡ C.parts) × (C.parts ≡ workers) }
-        requires kept { (blanks.kept.name ≡ K.name) × (blanks.kept.parts ≡ K.parts) × (K.parts ≡ workers) }
-        requires releases { (blanks.releases.name ≡ R.name) × (blanks.releases.parts ≡ R.parts) × (R.parts ≡ workers) }
-        requires lates { (blanks.lates.name ≡ L.name) × (blanks.lates.parts ≡ L.parts) × (L.parts ≡ workers) }
-        requires fetches { (blanks.fetches.name ≡ F.name) × (blanks.fetches.parts ≡ F.parts) × (F.parts ≡ workers) }
-        requires failed { (blanks.failed.name ≡ X.name) × (blanks.failed.parts ≡ X.parts) × (X.parts ≡ workers) }
-        requires overs { (blanks.overs.name ≡ O.name) × (blanks.overs.parts ≡ O.parts) × (O.parts ≡ workers) }
+        requires blanks { blanks ≡ Q.ledgers }
+        requires parts { Q.ledgers.parts ≡ workers }
         ensures count { IfOk result (λ r. vec_len r.1 ≡ workers) }
         ensures new { IfOk result (λ r. All (λ seat. seat.shares ≡ none_held 1) r.1.items) }
     {
@@ -89,7 +58,7 @@ impl<
     }
 
     /// One claim under the lock.
-    pub fn claim<T: Wait>(&self, rt: &T, seat: &mut Seat<C, K, R, L, F, X, O>) -> Turn
+    pub fn claim<T: Wait>(&self, rt: &T, seat: &mut Seat<Q>) -> Turn
         ensures turn { Turns seat.old.shares seat.new.shares result }
         ensures worker { seat.new.worker ≡ seat.old.worker }
     {
@@ -97,20 +66,14 @@ impl<
     }
 
     /// Waits until a claim would not be idle.
-    pub fn wait<T: Wait>(&self, rt: &T, _seat: &Seat<C, K, R, L, F, X, O>) {
+    pub fn wait<T: Wait>(&self, rt: &T, _seat: &Seat<Q>) {
         let guard = self.locked.lock(rt);
         self.changed
             .wait_while(rt, guard, |locked| locked.is_idle());
     }
 
     /// One delivery under the lock, which wakes who waits.
-    pub fn deliver<T: Wait>(
-        &self,
-        rt: &T,
-        seat: &mut Seat<C, K, R, L, F, X, O>,
-        ticket: Ticket,
-        news: News,
-    ) -> Taken
+    pub fn deliver<T: Wait>(&self, rt: &T, seat: &mut Seat<Q>, ticket: Ticket, news: News) -> Taken
         requires { Brings W.told W.shelved news }
         ensures hands { Hands seat.old.shares seat.new.shares news result }
         ensures worker { seat.new.worker ≡ seat.old.worker }
@@ -121,7 +84,7 @@ impl<
     }
 
     /// One release under the lock, which wakes who waits; none where the serial is not in flight.
-    pub fn release<T: Wait>(&self, rt: &T, seat: &mut Seat<C, K, R, L, F, X, O>, ticket: Ticket)
+    pub fn release<T: Wait>(&self, rt: &T, seat: &mut Seat<Q>, ticket: Ticket)
         ensures frees { Frees seat.old.shares seat.new.shares }
         ensures worker { seat.new.worker ≡ seat.old.worker }
     {
@@ -130,9 +93,9 @@ impl<
     }
 
     /// The table, once all of its seats are back.
-    pub fn close(self, seats: Vec<Seat<C, K, R, L, F, X, O>>) -> Table<W>
+    pub fn close(self, seats: Vec<Seat<Q>>) -> Table<W>
         requires some { 0 < vec_len seats }
-        requires all { (vec_len seats ≡ C.parts) × (vec_len seats ≡ K.parts) × (vec_len seats ≡ R.parts) × (vec_len seats ≡ L.parts) × (vec_len seats ≡ F.parts) × (vec_len seats ≡ X.parts) × (vec_len seats ≡ O.parts) }
+        requires all { vec_len seats ≡ Q.ledgers.parts }
         ensures root { result.root.expr ≡ Q.root }
         ensures closes { Closes result (sum_held (map (λ seat. seat.shares) seats.items)) }
     {
@@ -142,21 +105,7 @@ impl<
     }
 }
 
-fn lock_up<
-    W: World,
-    Q: Rooted,
-    C: Ledger,
-    K: Ledger,
-    R: Ledger,
-    L: Ledger,
-    F: Ledger,
-    X: Ledger,
-    O: Ledger,
->(
-    alloc: Global,
-    table: Table<W>,
-    books: Books<C, K, R, L, F, X, O>,
-) -> Locked<W, Q, C, K, R, L, F, X, O>
+fn lock_up<W: World, Q: Run>(alloc: Global, table: Table<W>, books: Books<Q>) -> Locked<W, Q>
     requires fresh { (table.history ≡ []) × (failures (state_of table) ≡ 0) }
     requires root { table.root.expr ≡ Q.root }
     requires books { books ≡ none_held 0 }
@@ -169,18 +118,8 @@ fn lock_up<
     }
 }
 
-fn audited<
-    W: World,
-    Q: Rooted,
-    C: Ledger,
-    K: Ledger,
-    R: Ledger,
-    L: Ledger,
-    F: Ledger,
-    X: Ledger,
-    O: Ledger,
->(locked: Locked<W, Q, C, K, R, L, F, X, O>, all: Shares<C, K, R, L, F, X, O>) -> Table<W>
-    requires { (all.parts ≡ C.parts) × (all.parts ≡ K.parts) × (all.parts ≡ R.parts) × (all.parts ≡ L.parts) × (all.parts ≡ F.parts) × (all.parts ≡ X.parts) × (all.parts ≡ O.parts) }
+fn audited<W: World, Q: Run>(locked: Locked<W, Q>, all: Shares<Q>) -> Table<W>
+    requires { all.parts ≡ Q.ledgers.parts }
     ensures root { result.root.expr ≡ Q.root }
     ensures closes { Closes result all }
 {
@@ -195,9 +134,7 @@ fn audited<
     table
 }
 
-fn merge_all<C: Ledger, K: Ledger, R: Ledger, L: Ledger, F: Ledger, X: Ledger, O: Ledger>(
-    seats: Vec<Seat<C, K, R, L, F, X, O>>,
-) -> Shares<C, K, R, L, F, X, O>
+fn merge_all<Q: Run>(seats: Vec<Seat<Q>>) -> Shares<Q>
     requires { 0 < vec_len seats }
     ensures parts { result.parts ≡ vec_len seats }
     ensures sums { result ≡ sum_held (map (λ seat. seat.shares) seats.items) }

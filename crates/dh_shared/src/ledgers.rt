@@ -1,0 +1,124 @@
+//! The seven ledgers of a run: what they count, each by a type that names it.
+
+ghost use Rattle.std.specs.Prelude.{◌≡◌};
+
+use crate::runs::Run;
+use std::marker::{Model, PhantomData};
+use std::sync::ledger::{Blank, Ledger};
+
+/// The ledger of claims.
+pub struct Claims<Q: Run> {
+    of: PhantomData<Q>,
+}
+
+impl<Q: Run> Ledger for Claims<Q> {
+    ghost name = { Q.ledgers.claims };
+
+    ghost parts = { Q.ledgers.parts };
+}
+
+/// The ledger of deliveries that were kept.
+pub struct Kept<Q: Run> {
+    of: PhantomData<Q>,
+}
+
+impl<Q: Run> Ledger for Kept<Q> {
+    ghost name = { Q.ledgers.kept };
+
+    ghost parts = { Q.ledgers.parts };
+}
+
+/// The ledger of releases.
+pub struct Releases<Q: Run> {
+    of: PhantomData<Q>,
+}
+
+impl<Q: Run> Ledger for Releases<Q> {
+    ghost name = { Q.ledgers.releases };
+
+    ghost parts = { Q.ledgers.parts };
+}
+
+/// The ledger of deliveries that came late.
+pub struct Lates<Q: Run> {
+    of: PhantomData<Q>,
+}
+
+impl<Q: Run> Ledger for Lates<Q> {
+    ghost name = { Q.ledgers.lates };
+
+    ghost parts = { Q.ledgers.parts };
+}
+
+/// The ledger of claims of a fetch.
+pub struct Fetches<Q: Run> {
+    of: PhantomData<Q>,
+}
+
+impl<Q: Run> Ledger for Fetches<Q> {
+    ghost name = { Q.ledgers.fetches };
+
+    ghost parts = { Q.ledgers.parts };
+}
+
+/// The ledger of failures that were delivered.
+pub struct Failed<Q: Run> {
+    of: PhantomData<Q>,
+}
+
+impl<Q: Run> Ledger for Failed<Q> {
+    ghost name = { Q.ledgers.failed };
+
+    ghost parts = { Q.ledgers.parts };
+}
+
+/// The ledger of claims that found the run over.
+pub struct Overs<Q: Run> {
+    of: PhantomData<Q>,
+}
+
+impl<Q: Run> Ledger for Overs<Q> {
+    ghost name = { Q.ledgers.overs };
+
+    ghost parts = { Q.ledgers.parts };
+}
+
+/// Seven new ledgers of as many parts. They have no parameter, so that one function can make them and another can name their run.
+#[derive(Drop)]
+pub struct Blanks {
+    pub(crate) claims: Blank,
+    pub(crate) kept: Blank,
+    pub(crate) releases: Blank,
+    pub(crate) lates: Blank,
+    pub(crate) fetches: Blank,
+    pub(crate) failed: Blank,
+    pub(crate) overs: Blank,
+}
+
+impl Model for Blanks {
+    ghost use Rattle.std.specs.Prelude.{◌≡◌};
+    ghost use Rattle.dh_shared.specs.Ledgers.{Ledgers};
+
+    ghost Value = { Ledgers };
+
+    ghost view = { λ b. record { parts = b.claims.parts; claims = b.claims.name; kept = b.kept.name; releases = b.releases.name; lates = b.lates.name; fetches = b.fetches.name; failed = b.failed.name; overs = b.overs.name } };
+
+    ghost invariant = { λ b. (b.kept.parts ≡ b.claims.parts) × (b.releases.parts ≡ b.claims.parts) × (b.lates.parts ≡ b.claims.parts) × (b.fetches.parts ≡ b.claims.parts) × (b.failed.parts ≡ b.claims.parts) × (b.overs.parts ≡ b.claims.parts) };
+}
+
+impl Blanks {
+    /// Seven ledgers of so many parts.
+    pub fn new(workers: u64) -> Blanks
+        ensures { result.parts ≡ workers }
+    {
+        Blanks {
+            claims: Blank::new(workers),
+            kept: Blank::new(workers),
+            releases: Blank::new(workers),
+            lates: Blank::new(workers),
+            fetches: Blank::new(workers),
+            failed: Blank::new(workers),
+            overs: Blank::new(workers),
+        }
+    }
+}
