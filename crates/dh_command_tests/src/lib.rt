@@ -8,6 +8,10 @@ mod imports;
 #[cfg(test)]
 mod normal_forms;
 #[cfg(test)]
+mod program;
+#[cfg(test)]
 mod runs;
+#[cfg(test)]
+mod streams;
 #[cfg(test)]
 mod types;

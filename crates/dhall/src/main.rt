@@ -7,16 +7,12 @@
 //! ```
 #![tactic(auto)]
 
-mod program;
-mod streams;
-
 use dh_desks::{Folders, make_desks};
 use dh_ports::{OpenGate, Silent};
+use dh_program::{Source, Target, exit_code, lack_memory, run_program};
 use dh_syntax::MOST_WORKERS;
-use program::{exit_code, lack_memory, run_program};
 use std::env;
 use std::process::ExitCode;
-use streams::{Source, Target};
 
 fn main(rt: HostRuntime) -> ExitCode {
     let alloc = rt.alloc();

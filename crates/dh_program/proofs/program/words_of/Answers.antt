@@ -2,7 +2,7 @@ use Rattle.std.proofs.Common.{ap, length, ◌∙◌}
 use Rattle.std.proofs.lemmas.Iterator.{items_from_collect}
 use Rattle.std.proofs.lemmas.Iterator.Adapters.{YieldsList-from_vec, YieldsList-from_skip}
 use Rattle.std.specs.Vec.Iter.{into_iter_items}
-use Rattle.dhall.proofs.program.words_of.Goals as goal
+use Rattle.dh_program.proofs.program.words_of.Goals as goal
 
 pub returns : goal.returns
 returns c =

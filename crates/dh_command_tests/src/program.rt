@@ -1,10 +1,16 @@
 //! Whole runs of the program, over desks and streams of its own.
 
-use super::*;
-use crate::streams::{Source, Target};
-use dh_ports::{DeskFails, MemDesk, MemFeed, MemSink, OpenGate, Silent, are_short};
+use dh_ports::{DeskFails, Feed, MemDesk, MemFeed, MemSink, OpenGate, Silent, Sink, are_short};
+use dh_program::{Source, Target, run_program};
 use dh_syntax::{Bytes, Many};
+use std::alloc::{AllocError, Global};
+use std::env::Args;
+use std::io;
+use std::io::ErrorKind;
+use std::process::ExitCode;
+use std::sync::Wait;
 use std::test::Fail;
+use std::thread::Threads;
 
 fn args_of(alloc: Global, words: &[&str]) -> Result<Args, AllocError> {
     let mut args = Vec::new(alloc);

@@ -1,6 +1,6 @@
 //! One run of the program, over whatever its words and its streams are.
 
-ghost use Rattle.std.specs.Prelude.{◌≡◌, ◌<◌, List, [], drop, map, string_bytes, IfOk, IfErr, vec_len};
+ghost use Rattle.std.specs.Prelude.{◌≡◌, ◌<◌, List, [], drop, map, string_bytes, IfOk, IfErr, IsErr, vec_len};
 ghost use Rattle.std.specs.IoError.{error_kind};
 ghost use Rattle.std.specs.Process.{exit_status};
 ghost use Rattle.std.specs.Vec.Iter.{into_iter_items};
@@ -9,7 +9,7 @@ ghost use Rattle.dh_syntax.specs.Command.Statuses.{code_of};
 ghost use Rattle.dh_syntax.specs.Command.Words.{Word};
 ghost use Rattle.dh_top.specs.Outside.{Outside, outside};
 ghost use Rattle.dh_top.specs.Runs.{Input, Runs, Delivers, reading, output};
-ghost use Rattle.dhall.specs.Ends.{Ends, EndsWithoutMemory, words_told};
+ghost use Rattle.dh_program.specs.Ends.{Ends, EndsWithoutMemory, words_told};
 
 use dh_ports::{Desk, Feed, Gate, Sink, World};
 use dh_syntax::Status;
@@ -21,6 +21,18 @@ use std::io::ErrorKind;
 use std::process::ExitCode;
 use std::sync::Wait;
 use std::thread::Threads;
+
+/// The words after the program's name, and none where one of them is not UTF-8.
+fn told_words(alloc: Global, args: io::Result<Args>) -> Result<Vec<String>, AllocError>
+    ensures words { IfOk result (λ words. map string_bytes words.items ≡ words_told string_bytes args) }
+    ensures lacks { IfErr args (λ e. error_kind e ≡ ErrorKind.OutOfMemory → IsErr result) }
+{
+    match args {
+        Ok(args) => words_of(alloc, args),
+        Err(error) if error.kind() == ErrorKind::OutOfMemory => Err(AllocError),
+        Err(_) => Ok(Vec::new(alloc)),
+    }
+}
 
 /// The words after the program's name.
 fn words_of(alloc: Global, args: Args) -> Result<Vec<String>, AllocError>
@@ -41,8 +53,15 @@ pub fn lack_memory<O: Sink, E: Sink>(out: &mut O, err: &mut E) -> Status
     deliver(&[], b"out of memory\n", Status::Memory, out, err)
 }
 
-/// Runs the command on the words that were told.
-fn run_args<
+/// The exit status of the process.
+pub fn exit_code(status: Status) -> ExitCode
+    ensures { exit_status result ≡ code_of status }
+{
+    ExitCode::from(status.code())
+}
+
+/// Runs the command on these words, unless memory was wanting for them.
+fn run_words<
     R: Threads + Wait + Sync,
     W: World + Send + Sync,
     D: Desk<W> + Send + Drop,
@@ -53,7 +72,7 @@ fn run_args<
 >(
     rt: &R,
     alloc: Global,
-    args: Args,
+    words: Result<Vec<String>, AllocError>,
     desks: &mut Vec<D>,
     gate: &G,
     input: &mut I,
@@ -61,13 +80,16 @@ fn run_args<
     err: &mut E,
 ) -> Status
     requires { 0 < vec_len desks.old }
-    ensures { Runs (map string_bytes (drop 1 (into_iter_items args)))
+    ensures runs { (told : List Word) → IfOk words (λ ws. map string_bytes ws.items ≡ told) → Runs told
         (reading (I.left input.old) (I.left input.new) (I.faults input.old) (I.faults input.new))
         (outside W.told W.shelved (λ d. D.faults d) (λ d. D.filed d) desks.old.items desks.new.items)
         (output (O.written out.old) (O.written out.new) (O.faults out.old) (O.faults out.new))
         (output (E.written err.old) (E.written err.new) (E.faults err.old) (E.faults err.new)) result }
+    ensures lacks { IsErr words → Delivers without_memory
+        (output (O.written out.old) (O.written out.new) (O.faults out.old) (O.faults out.new))
+        (output (E.written err.old) (E.written err.new) (E.faults err.old) (E.faults err.new)) result }
 {
-    match words_of(alloc, args) {
+    match words {
         Ok(words) => run_dhall::<_, W, _, _, _, _, _>(
             rt,
             alloc,
@@ -79,49 +101,6 @@ fn run_args<
             gate,
         ),
         Err(_) => lack_memory(out, err),
-    }
-}
-
-/// The exit status of the process.
-pub fn exit_code(status: Status) -> ExitCode
-    ensures { exit_status result ≡ code_of status }
-{
-    ExitCode::from(status.code())
-}
-
-/// Runs the command on the words, if they are told; how it ends.
-fn run_told<
-    R: Threads + Wait + Sync,
-    W: World + Send + Sync,
-    D: Desk<W> + Send + Drop,
-    I: Feed,
-    O: Sink,
-    E: Sink,
-    G: Gate + Sync,
->(
-    rt: &R,
-    alloc: Global,
-    args: io::Result<Args>,
-    desks: &mut Vec<D>,
-    gate: &G,
-    input: &mut I,
-    out: &mut O,
-    err: &mut E,
-) -> Status
-    requires { 0 < vec_len desks.old }
-    ensures runs { Runs (words_told string_bytes args)
-        (reading (I.left input.old) (I.left input.new) (I.faults input.old) (I.faults input.new))
-        (outside W.told W.shelved (λ d. D.faults d) (λ d. D.filed d) desks.old.items desks.new.items)
-        (output (O.written out.old) (O.written out.new) (O.faults out.old) (O.faults out.new))
-        (output (E.written err.old) (E.written err.new) (E.faults err.old) (E.faults err.new)) result }
-    ensures lacks { IfErr args (λ e. error_kind e ≡ ErrorKind.OutOfMemory → Delivers without_memory
-        (output (O.written out.old) (O.written out.new) (O.faults out.old) (O.faults out.new))
-        (output (E.written err.old) (E.written err.new) (E.faults err.old) (E.faults err.new)) result) }
-{
-    match args {
-        Ok(args) => run_args::<_, W, _, _, _, _, _>(rt, alloc, args, desks, gate, input, out, err),
-        Err(error) if error.kind() == ErrorKind::OutOfMemory => lack_memory(out, err),
-        Err(_) => run_dhall::<_, W, _, _, _, _, _>(rt, alloc, &[], desks, input, out, err, gate),
     }
 }
 
@@ -157,9 +136,7 @@ pub fn run_program<
         (output (O.written out.old) (O.written out.new) (O.faults out.old) (O.faults out.new))
         (output (E.written err.old) (E.written err.new) (E.faults err.old) (E.faults err.new)) (exit_status result)) }
 {
-    let status = run_told::<_, W, _, _, _, _, _>(rt, alloc, args, desks, gate, input, out, err);
+    let words = told_words(alloc, args);
+    let status = run_words::<_, W, _, _, _, _, _>(rt, alloc, words, desks, gate, input, out, err);
     exit_code(status)
 }
-
-#[cfg(test)]
-mod tests;
