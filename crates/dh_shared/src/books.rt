@@ -4,23 +4,23 @@ ghost use Rattle.std.specs.Prelude.{◌≡◌, ℕ, ◌+◌, ◌≤◌, ◌<◌,
 ghost use Rattle.dh_shared.specs.Held.{none_held, both, with_claim, with_kept, with_release, with_late, with_over};
 
 use crate::ledgers::{Blanks, Claims, Failed, Fetches, Kept, Lates, Overs, Releases};
-use crate::runs::Run;
+use crate::runs::Counted;
 use std::marker::Model;
 use std::sync::ledger::{Book, Share};
 
 /// The seven books: what all workers together have counted.
 #[derive(Drop)]
-pub struct Books<Q: Run> {
-    claims: Book<Claims<Q>>,
-    kept: Book<Kept<Q>>,
-    releases: Book<Releases<Q>>,
-    lates: Book<Lates<Q>>,
-    fetches: Book<Fetches<Q>>,
-    failed: Book<Failed<Q>>,
-    overs: Book<Overs<Q>>,
+pub struct Books<N: Counted> {
+    claims: Book<Claims<N>>,
+    kept: Book<Kept<N>>,
+    releases: Book<Releases<N>>,
+    lates: Book<Lates<N>>,
+    fetches: Book<Fetches<N>>,
+    failed: Book<Failed<N>>,
+    overs: Book<Overs<N>>,
 }
 
-impl<Q: Run> Model for Books<Q> {
+impl<N: Counted> Model for Books<N> {
     ghost use Rattle.dh_shared.specs.Held.{Held};
 
     ghost Value = { Held };
@@ -30,17 +30,17 @@ impl<Q: Run> Model for Books<Q> {
 
 /// The same number of parts of each of the seven, with what was counted on them.
 #[derive(Drop)]
-pub struct Shares<Q: Run> {
-    claims: Share<Claims<Q>>,
-    kept: Share<Kept<Q>>,
-    releases: Share<Releases<Q>>,
-    lates: Share<Lates<Q>>,
-    fetches: Share<Fetches<Q>>,
-    failed: Share<Failed<Q>>,
-    overs: Share<Overs<Q>>,
+pub struct Shares<N: Counted> {
+    claims: Share<Claims<N>>,
+    kept: Share<Kept<N>>,
+    releases: Share<Releases<N>>,
+    lates: Share<Lates<N>>,
+    fetches: Share<Fetches<N>>,
+    failed: Share<Failed<N>>,
+    overs: Share<Overs<N>>,
 }
 
-impl<Q: Run> Model for Shares<Q> {
+impl<N: Counted> Model for Shares<N> {
     ghost use Rattle.std.specs.Prelude.{◌≡◌};
     ghost use Rattle.dh_shared.specs.Held.{Held};
 
@@ -53,17 +53,17 @@ impl<Q: Run> Model for Shares<Q> {
 
 /// The seat of one worker: one part of each ledger.
 #[derive(Drop)]
-pub struct Seat<Q: Run> {
+pub struct Seat<N: Counted> {
     pub(crate) worker: u32,
-    pub(crate) shares: Shares<Q>,
+    pub(crate) shares: Shares<N>,
     ghost one: { shares.parts ≡ 1 },
 }
 
-impl<Q: Run> Books<Q> {
+impl<N: Counted> Books<N> {
     /// Opens the books, and the shares that hold all of their parts.
-    pub fn open(blanks: Blanks, workers: u64) -> (Books<Q>, Shares<Q>)
-        requires blanks { blanks ≡ Q.ledgers }
-        requires parts { Q.ledgers.parts ≡ workers }
+    pub fn open(blanks: Blanks, workers: u64) -> (Books<N>, Shares<N>)
+        requires blanks { blanks ≡ N.ledgers }
+        requires parts { N.ledgers.parts ≡ workers }
         ensures books { result.0 ≡ none_held 0 }
         ensures shares { result.1 ≡ none_held workers }
     {
@@ -106,7 +106,7 @@ impl<Q: Run> Books<Q> {
     }
 
     /// Counts a claim, and whether it is that of a fetch.
-    pub fn add_claim(&mut self, mine: &mut Shares<Q>, fetch: bool)
+    pub fn add_claim(&mut self, mine: &mut Shares<N>, fetch: bool)
         requires { 0 < mine.old.parts }
         ensures books { self.new ≡ with_claim self.old (cond fetch 1 0) }
         ensures shares { mine.new ≡ with_claim mine.old (cond fetch 1 0) }
@@ -116,7 +116,7 @@ impl<Q: Run> Books<Q> {
     }
 
     /// Counts a delivery that was kept, and whether it told a failure.
-    pub fn add_kept(&mut self, mine: &mut Shares<Q>, failed: bool)
+    pub fn add_kept(&mut self, mine: &mut Shares<N>, failed: bool)
         requires { 0 < mine.old.parts }
         ensures books { self.new ≡ with_kept self.old (cond failed 1 0) }
         ensures shares { mine.new ≡ with_kept mine.old (cond failed 1 0) }
@@ -126,7 +126,7 @@ impl<Q: Run> Books<Q> {
     }
 
     /// Counts a release.
-    pub fn add_release(&mut self, mine: &mut Shares<Q>)
+    pub fn add_release(&mut self, mine: &mut Shares<N>)
         requires { 0 < mine.old.parts }
         ensures books { self.new ≡ with_release self.old }
         ensures shares { mine.new ≡ with_release mine.old }
@@ -135,7 +135,7 @@ impl<Q: Run> Books<Q> {
     }
 
     /// Counts a delivery that came late.
-    pub fn add_late(&mut self, mine: &mut Shares<Q>)
+    pub fn add_late(&mut self, mine: &mut Shares<N>)
         requires { 0 < mine.old.parts }
         ensures books { self.new ≡ with_late self.old }
         ensures shares { mine.new ≡ with_late mine.old }
@@ -144,7 +144,7 @@ impl<Q: Run> Books<Q> {
     }
 
     /// Counts a claim that found the run over.
-    pub fn add_over(&mut self, mine: &mut Shares<Q>)
+    pub fn add_over(&mut self, mine: &mut Shares<N>)
         requires { 0 < mine.old.parts }
         ensures books { self.new ≡ with_over self.old }
         ensures shares { mine.new ≡ with_over mine.old }
@@ -153,8 +153,8 @@ impl<Q: Run> Books<Q> {
     }
 
     /// With every part the shares are the books.
-    pub fn audit(&mut self, all: &mut Shares<Q>)
-        requires { all.old.parts ≡ Q.ledgers.parts }
+    pub fn audit(&mut self, all: &mut Shares<N>)
+        requires { all.old.parts ≡ N.ledgers.parts }
         ensures books { self.new ≡ self.old }
         ensures shares { all.new ≡ all.old }
         ensures same { record all.old { parts = 0 } ≡ self.old }
@@ -169,9 +169,9 @@ impl<Q: Run> Books<Q> {
     }
 }
 
-impl<Q: Run> Shares<Q> {
+impl<N: Counted> Shares<N> {
     /// One part of each, with no amount.
-    pub fn split_one(&mut self) -> Shares<Q>
+    pub fn split_one(&mut self) -> Shares<N>
         requires { (0 < self.old.parts) × (self.old ≡ none_held self.old.parts) }
         ensures one { result ≡ none_held 1 }
         ensures rest { (self.new.parts + 1 ≡ self.old.parts) × (self.new ≡ none_held self.new.parts) }
@@ -188,7 +188,7 @@ impl<Q: Run> Shares<Q> {
     }
 
     /// Takes other shares in.
-    pub fn merge(&mut self, other: Shares<Q>)
+    pub fn merge(&mut self, other: Shares<N>)
         ensures { self.new ≡ both self.old other }
     {
         let Shares {
@@ -210,9 +210,9 @@ impl<Q: Run> Shares<Q> {
     }
 }
 
-impl<Q: Run> Seat<Q> {
+impl<N: Counted> Seat<N> {
     /// Its shares.
-    pub fn into_shares(self) -> Shares<Q>
+    pub fn into_shares(self) -> Shares<N>
         ensures one { result.parts ≡ 1 }
         ensures same { result ≡ self.shares }
     {

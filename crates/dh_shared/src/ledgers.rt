@@ -2,85 +2,85 @@
 
 ghost use Rattle.std.specs.Prelude.{◌≡◌};
 
-use crate::runs::Run;
+use crate::runs::Counted;
 use std::marker::{Model, PhantomData};
 use std::sync::ledger::{Blank, Ledger};
 
 /// The ledger of claims.
-pub struct Claims<Q: Run> {
-    of: PhantomData<Q>,
+pub struct Claims<N: Counted> {
+    of: PhantomData<N>,
 }
 
-impl<Q: Run> Ledger for Claims<Q> {
-    ghost name = { Q.ledgers.claims };
+impl<N: Counted> Ledger for Claims<N> {
+    ghost name = { N.ledgers.claims };
 
-    ghost parts = { Q.ledgers.parts };
+    ghost parts = { N.ledgers.parts };
 }
 
 /// The ledger of deliveries that were kept.
-pub struct Kept<Q: Run> {
-    of: PhantomData<Q>,
+pub struct Kept<N: Counted> {
+    of: PhantomData<N>,
 }
 
-impl<Q: Run> Ledger for Kept<Q> {
-    ghost name = { Q.ledgers.kept };
+impl<N: Counted> Ledger for Kept<N> {
+    ghost name = { N.ledgers.kept };
 
-    ghost parts = { Q.ledgers.parts };
+    ghost parts = { N.ledgers.parts };
 }
 
 /// The ledger of releases.
-pub struct Releases<Q: Run> {
-    of: PhantomData<Q>,
+pub struct Releases<N: Counted> {
+    of: PhantomData<N>,
 }
 
-impl<Q: Run> Ledger for Releases<Q> {
-    ghost name = { Q.ledgers.releases };
+impl<N: Counted> Ledger for Releases<N> {
+    ghost name = { N.ledgers.releases };
 
-    ghost parts = { Q.ledgers.parts };
+    ghost parts = { N.ledgers.parts };
 }
 
 /// The ledger of deliveries that came late.
-pub struct Lates<Q: Run> {
-    of: PhantomData<Q>,
+pub struct Lates<N: Counted> {
+    of: PhantomData<N>,
 }
 
-impl<Q: Run> Ledger for Lates<Q> {
-    ghost name = { Q.ledgers.lates };
+impl<N: Counted> Ledger for Lates<N> {
+    ghost name = { N.ledgers.lates };
 
-    ghost parts = { Q.ledgers.parts };
+    ghost parts = { N.ledgers.parts };
 }
 
 /// The ledger of claims of a fetch.
-pub struct Fetches<Q: Run> {
-    of: PhantomData<Q>,
+pub struct Fetches<N: Counted> {
+    of: PhantomData<N>,
 }
 
-impl<Q: Run> Ledger for Fetches<Q> {
-    ghost name = { Q.ledgers.fetches };
+impl<N: Counted> Ledger for Fetches<N> {
+    ghost name = { N.ledgers.fetches };
 
-    ghost parts = { Q.ledgers.parts };
+    ghost parts = { N.ledgers.parts };
 }
 
 /// The ledger of failures that were delivered.
-pub struct Failed<Q: Run> {
-    of: PhantomData<Q>,
+pub struct Failed<N: Counted> {
+    of: PhantomData<N>,
 }
 
-impl<Q: Run> Ledger for Failed<Q> {
-    ghost name = { Q.ledgers.failed };
+impl<N: Counted> Ledger for Failed<N> {
+    ghost name = { N.ledgers.failed };
 
-    ghost parts = { Q.ledgers.parts };
+    ghost parts = { N.ledgers.parts };
 }
 
 /// The ledger of claims that found the run over.
-pub struct Overs<Q: Run> {
-    of: PhantomData<Q>,
+pub struct Overs<N: Counted> {
+    of: PhantomData<N>,
 }
 
-impl<Q: Run> Ledger for Overs<Q> {
-    ghost name = { Q.ledgers.overs };
+impl<N: Counted> Ledger for Overs<N> {
+    ghost name = { N.ledgers.overs };
 
-    ghost parts = { Q.ledgers.parts };
+    ghost parts = { N.ledgers.parts };
 }
 
 /// Seven new ledgers of as many parts. They have no parameter, so that one function can make them and another can name their run.

@@ -23,6 +23,6 @@ mod turns;
 
 pub use books::{Seat, Shares};
 pub use ledgers::Blanks;
-pub use runs::Run;
+pub use runs::{Counted, Rooted};
 pub use shared_tables::SharedTable;
 pub use turns::Turn;

@@ -11,7 +11,7 @@ ghost use Rattle.dh_shared.specs.Turns.{Turns, Hands, Frees, Brings};
 
 use crate::books::{Books, Seat};
 use crate::calls::{draw, hand_in, is_fetch, put_back, tells_failure, work_of};
-use crate::runs::Run;
+use crate::runs::{Counted, Rooted};
 use crate::turns::Turn;
 use dh_ports::World;
 use dh_table::{Claimed, News, Table, Taken, Ticket};
@@ -20,10 +20,10 @@ use std::marker::PhantomData;
 
 /// The table of this root with the books: each book has the number of steps of its kind that the history has.
 #[derive(Drop)]
-pub struct Locked<W: World, Q: Run> {
+pub struct Locked<W: World, Q: Rooted, N: Counted> {
     pub(crate) alloc: Global,
     pub(crate) table: Table<W>,
-    pub(crate) books: Books<Q>,
+    pub(crate) books: Books<N>,
     pub(crate) of: PhantomData<Q>,
     ghost root_in: { table.root.expr ≡ Q.root } by { Prim.hlevel (codes, rows.the_row.coded) },
     ghost claims_in: { count_by is_claim table.history ≡ books.claims },
@@ -35,9 +35,9 @@ pub struct Locked<W: World, Q: Run> {
     ghost over_in: { 0 < books.overs → IsSome (root_end (state_of table)) },
 }
 
-impl<W: World, Q: Run> Locked<W, Q> {
+impl<W: World, Q: Rooted, N: Counted> Locked<W, Q, N> {
     /// One claim.
-    pub(crate) fn claim(&mut self, seat: &mut Seat<Q>) -> Turn
+    pub(crate) fn claim(&mut self, seat: &mut Seat<N>) -> Turn
         ensures turn { Turns seat.old.shares seat.new.shares result }
         ensures worker { seat.new.worker ≡ seat.old.worker }
     {
@@ -50,7 +50,7 @@ impl<W: World, Q: Run> Locked<W, Q> {
         self.claim_within(seat)
     }
 
-    fn claim_within(&mut self, seat: &mut Seat<Q>) -> Turn
+    fn claim_within(&mut self, seat: &mut Seat<N>) -> Turn
         requires { length self.old.table.flights + 3 ≤ self.old.table.spare }
         ensures turn { Turns seat.old.shares seat.new.shares result }
         ensures worker { seat.new.worker ≡ seat.old.worker }
@@ -89,7 +89,7 @@ impl<W: World, Q: Run> Locked<W, Q> {
     }
 
     /// One release, or none where the serial is not in flight.
-    pub(crate) fn release(&mut self, seat: &mut Seat<Q>, ticket: Ticket)
+    pub(crate) fn release(&mut self, seat: &mut Seat<N>, ticket: Ticket)
         ensures frees { Frees seat.old.shares seat.new.shares }
         ensures worker { seat.new.worker ≡ seat.old.worker }
     {
@@ -105,7 +105,7 @@ impl<W: World, Q: Run> Locked<W, Q> {
     }
 
     /// One delivery, or none where memory is wanting.
-    pub(crate) fn deliver(&mut self, seat: &mut Seat<Q>, ticket: Ticket, news: News) -> Taken
+    pub(crate) fn deliver(&mut self, seat: &mut Seat<N>, ticket: Ticket, news: News) -> Taken
         requires { Brings W.told W.shelved news }
         ensures hands { Hands seat.old.shares seat.new.shares news result }
         ensures worker { seat.new.worker ≡ seat.old.worker }
@@ -119,7 +119,7 @@ impl<W: World, Q: Run> Locked<W, Q> {
         self.deliver_within(seat, ticket, news)
     }
 
-    fn deliver_within(&mut self, seat: &mut Seat<Q>, ticket: Ticket, news: News) -> Taken
+    fn deliver_within(&mut self, seat: &mut Seat<N>, ticket: Ticket, news: News) -> Taken
         requires brings { Brings W.told W.shelved news }
         requires room { length self.old.table.flights + 1 ≤ self.old.table.spare }
         ensures hands { Hands seat.old.shares seat.new.shares news result }

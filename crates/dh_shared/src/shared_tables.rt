@@ -10,7 +10,7 @@ ghost use Rattle.dh_shared.specs.Turns.{Turns, Hands, Frees, Brings};
 use crate::books::{Books, Seat, Shares};
 use crate::ledgers::Blanks;
 use crate::locks::Locked;
-use crate::runs::Run;
+use crate::runs::{Counted, Rooted};
 use crate::turns::Turn;
 use dh_ports::World;
 use dh_table::{News, Table, Taken, Ticket};
@@ -20,24 +20,24 @@ use std::sync::{Condvar, Mutex, Wait};
 
 /// The table of one run under one lock, with its seven books. It is of the root of `Q` from its first step to its last.
 #[derive(Drop)]
-pub struct SharedTable<W: World, Q: Run> {
-    locked: Mutex<Locked<W, Q>>,
+pub struct SharedTable<W: World, Q: Rooted, N: Counted> {
+    locked: Mutex<Locked<W, Q, N>>,
     changed: Condvar,
 }
 
-impl<W: World, Q: Run> SharedTable<W, Q> {
+impl<W: World, Q: Rooted, N: Counted> SharedTable<W, Q, N> {
     /// Puts a table before its first step under a lock, with a seat for each worker.
     pub fn open(
         alloc: Global,
         table: Table<W>,
         workers: u32,
         blanks: Blanks,
-    ) -> Result<(SharedTable<W, Q>, Vec<Seat<Q>>), AllocError>
+    ) -> Result<(SharedTable<W, Q, N>, Vec<Seat<N>>), AllocError>
         requires fresh { (table.history ≡ []) × (failures (state_of table) ≡ 0) }
         requires root { table.root.expr ≡ Q.root }
         requires some { 0 < workers }
-        requires blanks { blanks ≡ Q.ledgers }
-        requires parts { Q.ledgers.parts ≡ workers }
+        requires blanks { blanks ≡ N.ledgers }
+        requires parts { N.ledgers.parts ≡ workers }
         ensures count { IfOk result (λ r. vec_len r.1 ≡ workers) }
         ensures new { IfOk result (λ r. All (λ seat. seat.shares ≡ none_held 1) r.1.items) }
     {
@@ -58,7 +58,7 @@ impl<W: World, Q: Run> SharedTable<W, Q> {
     }
 
     /// One claim under the lock.
-    pub fn claim<T: Wait>(&self, rt: &T, seat: &mut Seat<Q>) -> Turn
+    pub fn claim<T: Wait>(&self, rt: &T, seat: &mut Seat<N>) -> Turn
         ensures turn { Turns seat.old.shares seat.new.shares result }
         ensures worker { seat.new.worker ≡ seat.old.worker }
     {
@@ -66,14 +66,14 @@ impl<W: World, Q: Run> SharedTable<W, Q> {
     }
 
     /// Waits until a claim would not be idle.
-    pub fn wait<T: Wait>(&self, rt: &T, _seat: &Seat<Q>) {
+    pub fn wait<T: Wait>(&self, rt: &T, _seat: &Seat<N>) {
         let guard = self.locked.lock(rt);
         self.changed
             .wait_while(rt, guard, |locked| locked.is_idle());
     }
 
     /// One delivery under the lock, which wakes who waits.
-    pub fn deliver<T: Wait>(&self, rt: &T, seat: &mut Seat<Q>, ticket: Ticket, news: News) -> Taken
+    pub fn deliver<T: Wait>(&self, rt: &T, seat: &mut Seat<N>, ticket: Ticket, news: News) -> Taken
         requires { Brings W.told W.shelved news }
         ensures hands { Hands seat.old.shares seat.new.shares news result }
         ensures worker { seat.new.worker ≡ seat.old.worker }
@@ -84,7 +84,7 @@ impl<W: World, Q: Run> SharedTable<W, Q> {
     }
 
     /// One release under the lock, which wakes who waits; none where the serial is not in flight.
-    pub fn release<T: Wait>(&self, rt: &T, seat: &mut Seat<Q>, ticket: Ticket)
+    pub fn release<T: Wait>(&self, rt: &T, seat: &mut Seat<N>, ticket: Ticket)
         ensures frees { Frees seat.old.shares seat.new.shares }
         ensures worker { seat.new.worker ≡ seat.old.worker }
     {
@@ -93,9 +93,9 @@ impl<W: World, Q: Run> SharedTable<W, Q> {
     }
 
     /// The table, once all of its seats are back.
-    pub fn close(self, seats: Vec<Seat<Q>>) -> Table<W>
+    pub fn close(self, seats: Vec<Seat<N>>) -> Table<W>
         requires some { 0 < vec_len seats }
-        requires all { vec_len seats ≡ Q.ledgers.parts }
+        requires all { vec_len seats ≡ N.ledgers.parts }
         ensures root { result.root.expr ≡ Q.root }
         ensures closes { Closes result (sum_held (map (λ seat. seat.shares) seats.items)) }
     {
@@ -105,7 +105,11 @@ impl<W: World, Q: Run> SharedTable<W, Q> {
     }
 }
 
-fn lock_up<W: World, Q: Run>(alloc: Global, table: Table<W>, books: Books<Q>) -> Locked<W, Q>
+fn lock_up<W: World, Q: Rooted, N: Counted>(
+    alloc: Global,
+    table: Table<W>,
+    books: Books<N>,
+) -> Locked<W, Q, N>
     requires fresh { (table.history ≡ []) × (failures (state_of table) ≡ 0) }
     requires root { table.root.expr ≡ Q.root }
     requires books { books ≡ none_held 0 }
@@ -118,8 +122,8 @@ fn lock_up<W: World, Q: Run>(alloc: Global, table: Table<W>, books: Books<Q>) ->
     }
 }
 
-fn audited<W: World, Q: Run>(locked: Locked<W, Q>, all: Shares<Q>) -> Table<W>
-    requires { all.parts ≡ Q.ledgers.parts }
+fn audited<W: World, Q: Rooted, N: Counted>(locked: Locked<W, Q, N>, all: Shares<N>) -> Table<W>
+    requires { all.parts ≡ N.ledgers.parts }
     ensures root { result.root.expr ≡ Q.root }
     ensures closes { Closes result all }
 {
@@ -134,7 +138,7 @@ fn audited<W: World, Q: Run>(locked: Locked<W, Q>, all: Shares<Q>) -> Table<W>
     table
 }
 
-fn merge_all<Q: Run>(seats: Vec<Seat<Q>>) -> Shares<Q>
+fn merge_all<N: Counted>(seats: Vec<Seat<N>>) -> Shares<N>
     requires { 0 < vec_len seats }
     ensures parts { result.parts ≡ vec_len seats }
     ensures sums { result ≡ sum_held (map (λ seat. seat.shares) seats.items) }
