@@ -4,13 +4,13 @@
 ghost use Rattle.std.specs.Prelude.{◌≡◌, ◌+◌, ◌≤◌, ◌<◌, ◌++◌, ◌∷◌, [], true, false, None, map, All, Any, MatchOption, vec_len, vec_capacity};
 ghost use Rattle.dh_shared.specs.Held.{none_held};
 
-use dh_shared::{Run, Seat};
+use dh_shared::{Counted, Seat};
 
 /// A desk with a seat, and whether the worker there ended well.
 #[derive(Drop)]
-pub(crate) struct Place<D, Q: Run> {
+pub(crate) struct Place<D, N: Counted> {
     pub(crate) desk: D,
-    pub(crate) seat: Seat<Q>,
+    pub(crate) seat: Seat<N>,
     pub(crate) done: bool,
 }
 
@@ -47,7 +47,7 @@ fn take_first<T>(v: &mut Vec<T>) -> T
 }
 
 /// Takes the last seat.
-fn take_seat<Q: Run>(seats: &mut Vec<Seat<Q>>) -> Option<Seat<Q>>
+fn take_seat<N: Counted>(seats: &mut Vec<Seat<N>>) -> Option<Seat<N>>
     requires { All (λ seat. seat.shares ≡ none_held 1) seats.old.items }
     ensures rest { All (λ seat. seat.shares ≡ none_held 1) seats.new.items }
     ensures taken { MatchOption result (vec_len seats.old ≡ 0) (λ seat. seat.shares ≡ none_held 1) }
@@ -60,10 +60,10 @@ fn take_seat<Q: Run>(seats: &mut Vec<Seat<Q>>) -> Option<Seat<Q>>
 
 /// Moves the first desks, each with a seat, into places.
 #[tactic(auto, using(crate::proofs::Moves::moved))]
-pub(crate) fn seat_desks<D: Drop, Q: Run>(
+pub(crate) fn seat_desks<D: Drop, N: Counted>(
     desks: &mut Vec<D>,
-    seats: &mut Vec<Seat<Q>>,
-    places: &mut Vec<Place<D, Q>>,
+    seats: &mut Vec<Seat<N>>,
+    places: &mut Vec<Place<D, N>>,
 )
     requires desks { vec_len seats.old ≤ vec_len desks.old }
     requires room { vec_len places.old + vec_len seats.old ≤ vec_capacity places.old }
@@ -93,10 +93,10 @@ pub(crate) fn seat_desks<D: Drop, Q: Run>(
 
 /// Moves the desks and the seats of places back, in front of those that are left.
 #[tactic(auto, using(crate::proofs::Moves::moved))]
-pub(crate) fn stand_again<D: Drop, Q: Run>(
+pub(crate) fn stand_again<D: Drop, N: Counted>(
     desks: &mut Vec<D>,
-    seats: &mut Vec<Seat<Q>>,
-    places: Vec<Place<D, Q>>,
+    seats: &mut Vec<Seat<N>>,
+    places: Vec<Place<D, N>>,
 )
     requires room { vec_len desks.old + vec_len places ≤ vec_capacity desks.old }
     requires room_seats { vec_len seats.old + vec_len places ≤ vec_capacity seats.old }
@@ -118,7 +118,7 @@ pub(crate) fn stand_again<D: Drop, Q: Run>(
 }
 
 /// Whether all workers ended well.
-pub(crate) fn all_done<D, Q: Run>(places: &Vec<Place<D, Q>>) -> bool
+pub(crate) fn all_done<D, N: Counted>(places: &Vec<Place<D, N>>) -> bool
     ensures done { result ≡ true → All (λ p. p.done ≡ true) places.now.items }
     ensures undone { result ≡ false → Any (λ p. p.done ≡ false) places.now.items }
 {

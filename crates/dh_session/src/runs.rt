@@ -16,7 +16,7 @@ use crate::answers::{Answered, SessionFault, answer_of};
 use crate::places::{Place, all_done, seat_desks, stand_again};
 use crate::workers::worker;
 use dh_ports::{Desk, Gate, World};
-use dh_shared::{Blanks, Run, SharedTable};
+use dh_shared::{Blanks, Counted, Rooted, SharedTable};
 use dh_syntax::Expr;
 use dh_table::Table;
 use std::alloc::{AllocError, Global};
@@ -26,11 +26,11 @@ use std::thread;
 use std::thread::Threads;
 
 /// The worker of one place.
-fn work_at<T: Wait, W: World, D: Desk<W>, G: Gate, Q: Run>(
+fn work_at<T: Wait, W: World, D: Desk<W>, G: Gate, Q: Rooted, N: Counted>(
     rt: &T,
     alloc: Global,
-    shared: &SharedTable<W, Q>,
-    place: &mut Place<D, Q>,
+    shared: &SharedTable<W, Q, N>,
+    place: &mut Place<D, N>,
     gate: &G,
 )
     ensures { Goes place.new.done (D.asked place.old.desk) (D.asked place.new.desk) (D.faults place.old.desk) (D.faults place.new.desk) (D.filed place.old.desk) (D.filed place.new.desk) place.old.seat.shares place.new.seat.shares }
@@ -46,12 +46,13 @@ fn work_all<
     W: World + Send + Sync,
     D: Desk<W> + Send,
     G: Gate + Sync,
-    Q: Run + Send + Sync,
+    Q: Rooted + Send + Sync,
+    N: Counted + Send + Sync,
 >(
     rt: &T,
     alloc: Global,
-    shared: &SharedTable<W, Q>,
-    places: &mut [Place<D, Q>],
+    shared: &SharedTable<W, Q, N>,
+    places: &mut [Place<D, N>],
     workers: u32,
     gate: &G,
 )
@@ -71,12 +72,13 @@ fn work_places<
     W: World + Send + Sync,
     D: Desk<W> + Send,
     G: Gate + Sync,
-    Q: Run + Send + Sync,
+    Q: Rooted + Send + Sync,
+    N: Counted + Send + Sync,
 >(
     rt: &T,
     alloc: Global,
-    shared: &SharedTable<W, Q>,
-    places: &mut Vec<Place<D, Q>>,
+    shared: &SharedTable<W, Q, N>,
+    places: &mut Vec<Place<D, N>>,
     workers: u32,
     gate: &G,
 )
@@ -94,7 +96,8 @@ fn run<
     W: World + Send + Sync,
     D: Desk<W> + Send + Drop,
     G: Gate + Sync,
-    Q: Run + Send + Sync,
+    Q: Rooted + Send + Sync,
+    N: Counted + Send + Sync,
 >(
     rt: &T,
     alloc: Global,
@@ -107,15 +110,15 @@ fn run<
     requires some { (0 < workers) × (workers ≤ vec_len desks.old) }
     requires fresh { (table.history ≡ []) × (failures (state_of table) ≡ 0) }
     requires root { table.root.expr ≡ Q.root }
-    requires blanks { blanks ≡ Q.ledgers }
-    requires parts { Q.ledgers.parts ≡ workers }
+    requires blanks { blanks ≡ N.ledgers }
+    requires parts { N.ledgers.parts ≡ workers }
     ensures count { vec_len desks.new ≡ vec_len desks.old }
     ensures filed { map (λ d. D.filed d) desks.new.items ≡ map (λ d. D.filed d) desks.old.items }
     ensures root { IfOk result (λ t. t.root.expr ≡ Q.root) }
     ensures counted { IfOk result (λ t. NoneFell (map (λ d. D.faults d) desks.old.items) (map (λ d. D.faults d) desks.new.items)) }
     ensures ends { IfOk result (λ t. Ends (λ d. D.asked d) (λ d. D.faults d) desks.old.items desks.new.items t) }
 {
-    let (shared, seats) = SharedTable::<W, Q>::open(alloc, table, workers, blanks)?;
+    let (shared, seats) = SharedTable::<W, Q, N>::open(alloc, table, workers, blanks)?;
     let mut seats = seats;
     let mut places = Vec::with_capacity(alloc, workers as usize)?;
     seat_desks(desks, &mut seats, &mut places);
@@ -160,6 +163,6 @@ pub fn resolve_all<
 {
     let table = Table::open(alloc, root)?;
     let blanks = Blanks::new(u64::from(workers));
-    let closed = run::<R, W, D, G, Brand>(rt, alloc, blanks, desks, workers, table, gate)?;
+    let closed = run::<R, W, D, G, Brand, Brand>(rt, alloc, blanks, desks, workers, table, gate)?;
     answer_of(alloc, closed)
 }

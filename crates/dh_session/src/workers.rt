@@ -8,7 +8,7 @@ ghost use Rattle.dh_session.specs.Inside.{asked_after, failures_told};
 ghost use Rattle.dh_session.specs.Works.{Asks, Fails, FreesLate, EndsEarly};
 
 use dh_ports::{Desk, Gate, World};
-use dh_shared::{Run, Seat, SharedTable, Turn};
+use dh_shared::{Counted, Rooted, Seat, SharedTable, Turn};
 use dh_table::{News, Taken, Ticket, Work};
 use dh_work::{fetch_text, look_up, work_item};
 use std::alloc::{AllocError, Global};
@@ -40,10 +40,10 @@ fn bring<W: World, D: Desk<W>, G: Gate>(
 }
 
 /// Delivers news. A ticket that comes back is given back to the table.
-fn hand_in<T: Wait, W: World, Q: Run>(
+fn hand_in<T: Wait, W: World, Q: Rooted, N: Counted>(
     rt: &T,
-    shared: &SharedTable<W, Q>,
-    seat: &mut Seat<Q>,
+    shared: &SharedTable<W, Q, N>,
+    seat: &mut Seat<N>,
     ticket: Ticket,
     news: News,
 ) -> Result<(), AllocError>
@@ -70,11 +70,11 @@ fn hand_in<T: Wait, W: World, Q: Run>(
 
 /// Works on a task and delivers what it comes to. Where memory is wanting for that, the ticket is given back.
 #[tactic(auto, using(crate::proofs::Counting::fails_by, crate::proofs::Counting::fails_none))]
-fn carry_out<T: Wait, W: World, D: Desk<W>, G: Gate, Q: Run>(
+fn carry_out<T: Wait, W: World, D: Desk<W>, G: Gate, Q: Rooted, N: Counted>(
     rt: &T,
     alloc: Global,
-    shared: &SharedTable<W, Q>,
-    seat: &mut Seat<Q>,
+    shared: &SharedTable<W, Q, N>,
+    seat: &mut Seat<N>,
     desk: &mut D,
     gate: &G,
     ticket: Ticket,
@@ -103,11 +103,11 @@ fn carry_out<T: Wait, W: World, D: Desk<W>, G: Gate, Q: Run>(
 /// decided. Where memory is wanting it gives its ticket back and ends; after news that came late it gives its ticket back and goes
 /// on.
 #[tactic(auto, using(crate::proofs::Counting::asks_after, crate::proofs::Counting::fails_after))]
-pub fn worker<T: Wait, W: World, D: Desk<W>, G: Gate, Q: Run>(
+pub fn worker<T: Wait, W: World, D: Desk<W>, G: Gate, Q: Rooted, N: Counted>(
     rt: &T,
     alloc: Global,
-    shared: &SharedTable<W, Q>,
-    seat: &mut Seat<Q>,
+    shared: &SharedTable<W, Q, N>,
+    seat: &mut Seat<N>,
     desk: &mut D,
     gate: &G,
 ) -> Result<(), AllocError>

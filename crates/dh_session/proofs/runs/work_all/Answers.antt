@@ -13,9 +13,9 @@ use Rattle.dh_session.proofs.runs.work_all.Goals as goal
 pub for_each_mut-requires-sync-F : goal.for_each_mut-requires-sync-F
 for_each_mut-requires-sync-F g c κs within =
     let b = c.type_bounds in
-    let under : IsSend (locked.the_row (param 1 g.row.W) (param 4 g.row.Q) g.W.World g.Q.Run) =
+    let under : IsSend (locked.the_row (param 1 g.row.W) (param 4 g.row.Q) (param 5 g.row.N) g.W.World g.Q.Rooted g.N.Counted) =
     search (sendable, crosses, global.the_send, global.the_field_send, phantom.the_send, phantom.the_field_send, books.the_send, table_send, b) depth 120 fits 30000 in
-    let whole : Unit {0} → IsSync (shared.the_row (param 1 g.row.W) (param 4 g.row.Q) g.W.World g.Q.Run) =
+    let whole : Unit {0} → IsSync (shared.the_row (param 1 g.row.W) (param 4 g.row.Q) (param 5 g.row.N) g.W.World g.Q.Rooted g.N.Counted) =
     λ u. search (sendable, crosses, condvar.the_sync, condvar.the_field_sync, under) depth 40 fits 5000 in
     let runtime : Unit {0} → IsSync (param 0 g.row.T) = λ u. b.sync-T in
     let passed : Unit {0} → IsSync (param 3 g.row.G) = λ u. b.sync-G in
