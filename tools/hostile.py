@@ -18,6 +18,7 @@ import shutil
 import sys
 import tempfile
 import time
+import traceback
 
 from attacks import binary, caches, endless, faults, graphs, growth, memory, places, shapes, streams, texts, typed, words
 from attacks.runs import Runs
@@ -31,7 +32,10 @@ def run_part(name, program, *options):
     sys.setrecursionlimit(100_000)
     runs = Runs(program, *options)
     start = time.monotonic()
-    PARTS[name].attack(runs)
+    try:
+        PARTS[name].attack(runs)
+    except Exception:
+        runs.report(f"the part {name}", f"did not go on: {traceback.format_exc()}")
     took, used = time.monotonic() - start, resource.getrusage(resource.RUSAGE_CHILDREN)
     return name, runs, took, used.ru_utime + used.ru_stime
 
@@ -73,7 +77,7 @@ def main():
     parser.add_argument("--part", action="append", choices=PARTS, help="only this part; may be given again")
     parser.add_argument("--seed", type=int, default=23)
     parser.add_argument("--quick", action="store_true", help="fewer random inputs and fewer sizes")
-    parser.add_argument("--slowness", type=int, default=1, help="how many times as long a run may take, of a build that is slow (1)")
+    parser.add_argument("--slowness", type=int, default=1, help="how many times as long a run may take, of a slow build or on a busy machine (1)")
     parser.add_argument("--jobs", type=int, default=2, help="how many parts at once (2)")
     options = parser.parse_args()
     if not os.access(options.program, os.X_OK):

@@ -12,7 +12,7 @@ import subprocess
 
 import expressions
 from attacks.places import as_nobody, text_line
-from attacks.runs import IMPORT, LONG, OK, RESOLVING, TEXT, Ran, new_folder, refused, write, written
+from attacks.runs import IMPORT, LONG, RESOLVING, Ran, new_folder, refused, write, written
 
 RECORD = ("record", [("a", ("nat", 1)), ("b", ("list", [("text", ["x"], []), ("text", ["λ"], [])]))])
 FORM = expressions.encoded(RECORD)
@@ -76,7 +76,7 @@ def right_and_wrong(runs):
         expect_cache(runs, "what a run keeps", cache, FORM)
         write(folder, "f", "2")
         for verb in RESOLVING:
-            runs.check_by_workers("entries", "right, another file", verb, root, [1, 4], *seen(verb, root), **given)
+            runs.check_by_workers("entries", "right, another file", verb, root, [1, 4], seen(verb, root), **given)
         for data in torn(FORM):
             put(cache, FORM, data)
             runs.check("torn entries", f"torn to {data[:40].hex()}, another file", ["normalize"], root, differs, **given)
@@ -92,7 +92,7 @@ def seen(verb, root):
     kind = ("record type", [("a", ("builtin", "Natural")), ("b", ("app", ("builtin", "List"), ("builtin", "Text")))])
     rows = {"resolve": LINE, "normalize": LINE, "type": written(expressions.printed(kind).encode() + b"\n"),
             "hash": written(f"sha256:{digest(FORM)}\n".encode()), "freeze": written(root)}
-    return [rows[verb]]
+    return rows[verb]
 
 
 def odd_entries(runs):

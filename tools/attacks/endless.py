@@ -1,7 +1,7 @@
 """Expressions whose normal form takes more than the budget, most of them more than the age of the world: folds of the greatest
 number, powers and towers of functions, Ackermann's function, sharing whose written form is too long; in the input, below a binder,
 in a type that has to be found, in an import, in one of many imports. Each ends in seconds, with the budget spent, or too deep where
-what waits for the end of a fold piles up. Memory is limited to 2 GB: typing takes most of a kilobyte for each unit of its budget, so it
+what waits for the end of a fold piles up. Memory is limited to 3 GB: typing takes most of a kilobyte for each unit of its budget, so it
 may want memory first."""
 
 import resource
@@ -9,7 +9,7 @@ import resource
 from attacks.runs import DEEP, LONG, NO_MEMORY, SPENT, new_folder, refused, write, written
 
 MOST = 2 ** 128 - 1
-MOST_MEMORY = 2 << 30
+MOST_MEMORY = 3 << 30
 SHOTS = "\\(f : Natural -> Natural) -> \\(x : Natural) -> f (f x)"
 
 

@@ -47,7 +47,7 @@ def full_texts(runs):
         "replaced": f'Text/replace "a" "{"k" * 16384}" "{"a" * 1024}b"',
         "shown": "Text/show (" + doublings(14, f'"{KIB}"') + ")",
         "2^40 bytes": doublings(40, '"k"'),
-        "2^500 bytes by a fold": f'Natural/fold 500 Text (\\(t : Text) -> t ++ t) "k"',
+        "2^500 bytes by a fold": 'Natural/fold 500 Text (\\(t : Text) -> t ++ t) "k"',
         "shown again and again": 'Natural/fold 60 Text Text/show "\\""',
     }
     for name, text in over.items():

@@ -8,7 +8,7 @@ import resource
 
 import expressions
 from attacks.places import as_nobody
-from attacks.runs import LONG, NO_MEMORY, OK, RESOLVING, VERBS, new_folder, refused, write, written
+from attacks.runs import LONG, NO_MEMORY, OK, RESOLVING, VERBS, new_folder, refused, shown, write, written
 from attacks.streams import GOOD, good_run, much
 
 MB = 1 << 20
@@ -156,8 +156,8 @@ def deep_forms(runs):
                 for verb in RESOLVING:
                     ran = runs.run("deep forms", f"{verb}, {name}", [verb], given, folder=folder, before=limited(resource.RLIMIT_STACK, 64 * MB))
                     if ran is not None and ran.status != OK:
-                        runs.report(f"{verb}, {name}", f"was {ran}")
-                    for workers in ["1", "4"]:
+                        runs.report(f"{verb}, {name}", f"was {shown(ran)}")
+                    for workers in ["1", "4"] if ran else []:
                         runs.check("deep forms", f"{verb}, {name}, a stack of 1 MB, {workers} workers", [verb, "--workers", workers], given, ran, folder=folder,
                                    before=limited(resource.RLIMIT_STACK, MB))
 

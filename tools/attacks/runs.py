@@ -72,7 +72,7 @@ def misused(word):
 
 
 def shown(ran):
-    return (ran.status, ran.out and ran.out[:60], ran.err and ran.err[:100])
+    return ran and (ran.status, ran.out and ran.out[:60], ran.err and ran.err[:100])
 
 
 def flaw(ran):

@@ -104,7 +104,7 @@ def much(verb):
     text, form = balanced(16)
     texts = ("text", ["x" * 1_000_000], [])
     long = expressions.printed(texts).encode()
-    rows = {"encode": (text, form), "decode": (form[:0] + expressions.encoded(texts), long + b"\n"), "freeze": (long, long)}
+    rows = {"encode": (text, form), "decode": (expressions.encoded(texts), long + b"\n"), "freeze": (long, long)}
     return rows.get(verb, (long, long + b"\n"))
 
 

@@ -3,7 +3,7 @@ text, long ones, many; streams that are closed while the words are wrong."""
 
 import os
 
-from attacks.runs import READING, VERBS, misused, refused, written
+from attacks.runs import VERBS, misused
 from attacks.streams import GOOD, good_run
 
 WRONG = [([], 1), ([""], 1), (["Encode"], 1), (["encode "], 1), (["encod"], 1), (["encodes"], 1), (["-"], 1), (["x", "encode"], 1),
