@@ -1,0 +1,1 @@
+"""Attacks on the built program, a module for each kind; hostile.py runs them."""

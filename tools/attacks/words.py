@@ -1,0 +1,53 @@
+"""Words that are no command line, for each command; each number of workers from 1 to 64 and numbers out of range; words that are no
+text, long ones, many; streams that are closed while the words are wrong."""
+
+import os
+
+from attacks.runs import VERBS, misused
+from attacks.streams import GOOD, good_run
+
+WRONG = [([], 1), ([""], 1), (["Encode"], 1), (["encode "], 1), (["encod"], 1), (["encodes"], 1), (["-"], 1), (["x", "encode"], 1),
+         ([b"\xff"], 1), ([b"encode\xff"], 1), (["e" * 100_000], 1), (["\u03bb"], 1), (["encode\n"], 1), (["--workers", "4", "encode"], 1),
+         (["HELP"], 1), (["-help"], 1), (["--Help"], 1), (["-v"], 1), (["version"], 1), (["-h", "-h"], 2), (["--"], 1), (["batch"], 1), (["gen"], 1)]
+NO_COUNTS = ["0", "65", "04", "+4", "4x", "", " 4", "4 ", "4.0", "0x4", "-1", "9" * 1_000, "4294967297", "18446744073709551620", "\u0664", b"4\xff"]
+
+
+def of_no_command(runs):
+    for words, k in WRONG:
+        for text in (b"1", b"x"):
+            runs.check("words", f"words {words!r:.60}", words, text, misused(k))
+
+
+def of_a_command(runs, verb):
+    text = GOOD[verb][0]
+    rows = [(["", ], 2), ([verb], 2), (["-h"], 2), (["a", "b"], 2), (["x"] * 10_000, 2), (["--worker", "4"], 2), (["--workers=4"], 2), (["--workers"], 3),
+            (["--workers", "--workers"], 3), (["--workers", "4", "x"], 4), (["--workers", "4", "--workers", "4"], 4), (["--workers", "4", ""], 4)]
+    rows += [(["--workers", count], 3) for count in NO_COUNTS]
+    for words, k in rows:
+        # Of a word that is no text the system library tells nothing.
+        wrong = misused(1 if any(isinstance(word, bytes) for word in words) else k)
+        runs.check("words", f"words {[verb, *words]!r:.60}", [verb, *words], text, wrong)
+
+
+def workers(runs, verb):
+    text, good = GOOD[verb][0], good_run(runs, verb)
+    for n in range(1, 65):
+        runs.check("workers", f"{verb}, {n} workers", [verb, "--workers", str(n)], text, good)
+
+
+def without_streams(runs):
+    """Wrong words are told before the input is looked at, and leave standard output alone."""
+    for name, numbers in (("stdin closed", [0]), ("stdout closed", [1]), ("both closed", [0, 1])):
+        before = lambda: [os.close(n) for n in numbers]
+        runs.check("words", f"no words, {name}", [], None, misused(1), before=before)
+        runs.check("words", f"a word too many, {name}", ["type", "x"], None, misused(2), before=before)
+
+
+def attack(runs):
+    of_no_command(runs)
+    for verb in VERBS:
+        of_a_command(runs, verb)
+        workers(runs, verb)
+    for word in ("help", "-h"):
+        runs.check("words", word, [word], b"", good_run(runs, "--help"))
+    without_streams(runs)
