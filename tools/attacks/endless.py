@@ -83,7 +83,6 @@ def in_the_input(runs):
                          ("on both sides of an assertion", b"assert : (%s) === (%s)")):
         given = around.replace(b"%s", text)
         check(runs, "endless", f"{name}, type", ["type"], given, SPENT)
-        check(runs, "endless", f"{name}, normalize", ["normalize"], given, SPENT)
     for name, around, wanted in (("a function that is not called", b"let f = \\(x : Natural) -> 1 in f (%s)", b"1\n"),
                                  ("a branch that is not taken", b"if True then 1 else (%s)", b"1\n"),
                                  ("a field that is not selected", b"{ a = 1, b = %s }.a", b"1\n"),
