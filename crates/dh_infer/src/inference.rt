@@ -26,7 +26,8 @@ use crate::loads::load;
 use crate::piles::Pile;
 use crate::steps::{Ending, run};
 use crate::unloads::unload;
-use dh_store::{CodeId, Codes};
+use dh_norm::first_codes;
+use dh_store::CodeId;
 use dh_syntax::{Expr, Ill, MOST_NESTING, Many, NormFault, Purse, TypeFault};
 use dh_terms::{Core, from_core, to_core};
 use std::alloc::Global;
@@ -87,7 +88,7 @@ pub(crate) fn type_nameless(alloc: Global, e: &Core, purse: &mut Purse) -> Resul
     ensures shallow { IfOk result (λ t. nesting (nameless t) ≤ most_nesting) }
     ensures err { IfErr result (λ f. AnswersFault purse.old.left (nameless e.now) f) }
 {
-    let mut codes = Codes::new(alloc)?;
+    let mut codes = first_codes(alloc)?;
     let code = load(alloc, &mut codes, e)?;
     let mut typer = Typer {
         codes,
@@ -103,7 +104,7 @@ pub(crate) fn type_nameless(alloc: Global, e: &Core, purse: &mut Purse) -> Resul
 }
 
 /// The type of an expression in the empty context (the standard's "Type inference"), with the names of its binders, for at most the
-/// units that it takes to find it. `Ill` comes exactly where the expression has no type, with the first place that has none and the
+/// units that it takes to find it. `Ill` comes only where the expression has no type, with the first place that has none and the
 /// number of the rule that fails there. A limit is named only where it is licensed.
 pub fn infer(alloc: Global, e: &Expr, purse: &mut Purse) -> Result<Expr, TypeFault>
     requires formed { IsWellFormed (term e.now) }
