@@ -49,6 +49,10 @@ def numbers(n):
     return "[ " + ", ".join(str(i) for i in range(n)) + " ]"
 
 
+def names(n):
+    return "[ " + ", ".join(f'"name {i}"' for i in range(n)) + " ]"
+
+
 def doublings(n):
     return "let f = \\(x : Natural) -> x + x in " + "f (" * n + "1" + ")" * n
 
@@ -100,6 +104,15 @@ def interpolations(n):
 
 def joined_texts(n):
     return "\\(x : Text) -> " + " ++ ".join(['"a"', "x"] * (n // 2))
+
+
+def text_in_front(n):
+    """A text that grows in front, as the folds of ordinary libraries build one."""
+    return f'List/fold Text {names(n)} Text (\\(x : Text) -> \\(rest : Text) -> x ++ ", " ++ rest) ""'
+
+
+def text_behind(n):
+    return f'List/fold Text {names(n)} Text (\\(x : Text) -> \\(done : Text) -> done ++ ", " ++ x) ""'
 
 
 def joined_lists(n):
@@ -271,7 +284,9 @@ NORMAL = [
     ("records preferred", preferred, [2500, 5000, 10000]),
     ("Text/replace", replaced, [250000, 500000, 1000000]),
     ("interpolations", interpolations, [5000, 10000, 20000]),
-    ("texts joined", joined_texts, [5000, 10000, 20000]),
+    ("texts joined around a variable", joined_texts, [5000, 10000, 20000]),
+    ("text that grows in front", text_in_front, [25000, 50000, 100000]),
+    ("text that grows behind", text_behind, [25000, 50000, 100000]),
     ("lists joined", joined_lists, [5000, 10000, 20000]),
     ("map", mapped, [2500, 5000, 10000]),
     ("filter", filtered, [2500, 5000, 10000]),
