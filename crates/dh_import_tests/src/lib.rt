@@ -2,6 +2,8 @@
 #![tactic(auto)]
 
 #[cfg(test)]
+mod gates;
+#[cfg(test)]
 mod sessions;
 #[cfg(test)]
 mod table_runs;
