@@ -257,6 +257,16 @@ def tangle(n):
     return items(f"./r{i}.dhall" for i in range(n) if i not in imported), ((f"r{i}.dhall", text(i)) for i in range(n))
 
 
+def line(n):
+    """Each file is the import of the next one."""
+    return "./f0.dhall\n", ((f"f{i}.dhall", f"./f{i + 1}.dhall\n" if i < n - 1 else "1\n") for i in range(n))
+
+
+def list_of_line(n):
+    """A list of all files of a line; so the root waits for each of them, and they end from the last to the first."""
+    return items(f"./f{i}.dhall" for i in range(n)), line(n)[1]
+
+
 def choices(n):
     return items(f"(./missing{i}.dhall ? ./x{i}.dhall)" for i in range(n)), ((f"x{i}.dhall", f"{i}\n") for i in range(n))
 
@@ -284,9 +294,9 @@ NORMAL = [
     ("records preferred", preferred, [2500, 5000, 10000]),
     ("Text/replace", replaced, [250000, 500000, 1000000]),
     ("interpolations", interpolations, [5000, 10000, 20000]),
-    ("texts joined around a variable", joined_texts, [5000, 10000, 20000]),
-    ("text that grows in front", text_in_front, [25000, 50000, 100000]),
-    ("text that grows behind", text_behind, [25000, 50000, 100000]),
+    ("texts joined around a variable", joined_texts, [120, 240, 480]),
+    ("text that grows in front", text_in_front, [12500, 25000, 50000]),
+    ("text that grows behind", text_behind, [12500, 25000, 50000]),
     ("lists joined", joined_lists, [5000, 10000, 20000]),
     ("map", mapped, [2500, 5000, 10000]),
     ("filter", filtered, [2500, 5000, 10000]),
@@ -310,6 +320,8 @@ GRAPHS = [
     ("chain of n files", chain, [125, 250, 500]),
     ("tower of n levels", tower, [3, 6, 12]),
     ("random graph of n files", tangle, [1000, 2000, 4000]),
+    ("line of n files", line, [1000, 2000, 4000]),
+    ("list of the n files of a line", list_of_line, [1000, 2000, 4000]),
     ("fan of n choices, each of its own", choices, [500, 1000, 2000]),
     ("fan of n choices, all the same", choice, [500, 1000, 2000]),
 ]
