@@ -1,5 +1,5 @@
 -- Where the machine begins, and how its end is told.
-use Rattle.std.specs.Prelude.{◌≡◌, ◌<◌, ◌⊎◌, ℕ, List, [], ◌∷◌, length, map, reverse, Result, Ok, Err, IfOk, IfErr, refl}
+use Rattle.std.specs.Prelude.{◌≡◌, ◌<◌, ◌⊎◌, ℕ, List, [], reverse, Result, Ok, Err, IfOk, IfErr}
 use Rattle.std.proofs.Common.{ap, sym, ◌∙◌, inl, inr, subst as along}
 use Rattle.dh_syntax.specs.declared.faults.NormFault.{NormFault}
 use Rattle.dh_syntax.specs.declared.faults.NormFault.TheVariants as limits
@@ -13,20 +13,18 @@ use Rattle.dh_syntax.specs.Typing.Inference as of_judgments
 use Rattle.dh_syntax.specs.Names.Nameless.{Bound, Core}
 use Rattle.dh_store.specs.declared.codes.Codes.{Codes}
 use Rattle.dh_store.specs.Cells.{code_core, AreCoded}
-use Rattle.dh_store.specs.Growth.{count}
 use Rattle.dh_norm.specs.Loaded.{IsLoaded}
 use Rattle.dh_norm.specs.References.{renamer, opened, start}
 use Rattle.dh_norm.proofs.FormedCodes.{form-formed}
 use Rattle.dh_terms.proofs.Shapes.{well_formed-of_moved}
 use Rattle.dh_infer.specs.declared.frames.Entry.{Entry}
 use Rattle.dh_infer.specs.declared.frames.Frame.{Frame}
-use Rattle.dh_infer.specs.declared.frames.State.{State}
 use Rattle.dh_infer.specs.declared.frames.State.TheVariants as states
 use Rattle.dh_infer.specs.declared.frames.Failure.{Failure}
 use Rattle.dh_infer.specs.declared.frames.Typer.{Typer}
 use Rattle.dh_infer.specs.declared.halts.Halt.TheVariants as halts
 use Rattle.dh_infer.specs.declared.steps.Ending.TheVariants as endings
-use Rattle.dh_infer.specs.Inside.Debts.{whole, Meets, Root}
+use Rattle.dh_infer.specs.Inside.Debts.{whole, Meets}
 use Rattle.dh_infer.specs.Inside.Lettered.{lettering, lettered}
 use Rattle.dh_infer.specs.Inside.Levels.{IsOf}
 use Rattle.dh_infer.specs.Inside.Machine.{IsReady, IsHalted}

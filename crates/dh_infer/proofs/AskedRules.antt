@@ -18,7 +18,7 @@ use Rattle.dh_types.specs.declared.steps.Step.{Step}
 use Rattle.dh_types.specs.declared.steps.Step.TheVariants as steps
 use Rattle.dh_types.specs.Closed.{IsClosed}
 use Rattle.dh_types.specs.ClosedSteps.{AreTypesClosed, IsFoundClosed}
-use Rattle.dh_types.specs.Following.{Course, normal_found, facts_of, follow, course_of}
+use Rattle.dh_types.specs.Following.{normal_found, facts_of, follow, course_of}
 use Rattle.dh_types.specs.Growing.{Grows}
 use Rattle.dh_types.specs.Shown.{IsNode}
 use Rattle.dh_types.specs.There.{IsFoundThere, IsStepThere}
@@ -27,7 +27,6 @@ use Rattle.dh_infer.specs.declared.frames.Frame.TheVariants as frames
 use Rattle.dh_infer.specs.declared.frames.State.{State}
 use Rattle.dh_infer.specs.declared.frames.State.TheVariants as states
 use Rattle.dh_infer.specs.declared.frames.Typer.{Typer}
-use Rattle.dh_infer.specs.Inside.Levels.{IsOf}
 use Rattle.dh_infer.specs.declared.halts.Halt.{Halt}
 use Rattle.dh_infer.specs.Inside.Machine.{AreAllOf, AreFoundBelow, IsPlainNode, IsReady, IsRefusal, Advances, Halts, with_frame}
 use Rattle.dh_infer.specs.Inside.NormalCodes.{IsNormalCode, IsStopped}

@@ -1,9 +1,9 @@
 -- How many parts of a node are typed.
 use Rattle.std.specs.Prelude.{◌≡◌, ◌<◌, ◌≤◌, ◌++◌, ◌&&◌, ℕ, zero, suc, Bool, true, false, List, [], ◌∷◌, length, Some, None, IsTrue, slice_get, refl}
-use Rattle.std.proofs.Common.{ap, sym, ◌∙◌, arith}
+use Rattle.std.proofs.Common.{ap, arith}
 use Rattle.dh_syntax.specs.declared.expressions.Op.{Op}
 use Rattle.dh_syntax.specs.declared.expressions.Op.TheVariants as ops
-use Rattle.dh_syntax.specs.Expressions.Arity.{plain, fits}
+use Rattle.dh_syntax.specs.Expressions.Arity.{fits}
 use Rattle.dh_syntax.specs.Expressions.Tree.{Name}
 use Rattle.dh_syntax.specs.Names.Nameless.{Ref, Core}
 use Rattle.dh_syntax.specs.Typing.Inference.{Inference}

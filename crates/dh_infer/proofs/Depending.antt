@@ -1,6 +1,6 @@
 -- What a machine owes depends on what its codes stand for, and on no other number.
 use Rattle.std.specs.Prelude.{◌≡◌, ◌<◌, ℕ, zero, suc, nat_lt, Bool, true, false, List, [], ◌∷◌, map, length, drop, Option, Some, None, option_map, option_and_then, IfSome, slice_index_or, if◌then◌else◌, refl}
-use Rattle.std.proofs.Common.{Global, Vec, ap, sym, ◌∙◌, arith, subst as along}
+use Rattle.std.proofs.Common.{ap, sym, ◌∙◌, arith, subst as along}
 use Rattle.std.proofs.lemmas.Bool.Decides.{nat_tests}
 use Rattle.std.proofs.Math.Path.{fun_ext}
 use Rattle.dh_syntax.specs.Names.Nameless.{Core, raised, sub}
@@ -20,11 +20,11 @@ use Rattle.dh_infer.specs.declared.frames.State.{State}
 use Rattle.dh_infer.specs.declared.frames.State.TheVariants as states
 use Rattle.dh_infer.specs.declared.frames.Typer.{Typer}
 use Rattle.dh_infer.specs.declared.halts.Halt.{Halt}
-use Rattle.dh_infer.specs.Inside.Debts.{Family, whole, AreUniverses, Debt, Part, Beside, Used, Root, Comes, Goes}
+use Rattle.dh_infer.specs.Inside.Debts.{whole, AreUniverses, Debt, Part, Beside, Used, Root, Comes, Goes}
 use Rattle.dh_infer.specs.Inside.Machine.{debt_of, debts, outer_scope, outer_levels, AreFoundBelow, IsFrameThere, AreFramesThere, IsStateThere, IsOwed, Works, IsReady, Halts}
 use Rattle.dh_infer.specs.Inside.Rests as rests
 use Rattle.dh_infer.specs.Inside.Rests.{with_universe, universe_next}
-use Rattle.dh_infer.specs.Inside.Scopes.{Models, env, in_scope, below_scope, AreEntriesThere}
+use Rattle.dh_infer.specs.Inside.Scopes.{env, in_scope, below_scope, AreEntriesThere}
 use Rattle.dh_infer.proofs.FoundMore.{below-with_universe}
 use Rattle.dh_infer.proofs.Readiness.{with_codes}
 use Rattle.dh_infer.proofs.Returning.{entries-drop, below-drop}

@@ -1,5 +1,5 @@
 -- Typing in the empty context, where no variable has a number.
-use Rattle.std.specs.Prelude.{◌≡◌, ◌<◌, ◌≤◌, ◌⊎◌, ◌+◌, ℕ, zero, suc, Bool, true, false, List, [], ◌∷◌, Option, Some, None, option_map, IsTrue, refl}
+use Rattle.std.specs.Prelude.{◌≡◌, ◌<◌, ◌+◌, ℕ, zero, suc, Bool, true, false, List, [], ◌∷◌, Some, None, refl}
 use Rattle.std.proofs.Common.{ap, sym, ◌∙◌, arith, inl, inr, subst as along}
 use Rattle.std.proofs.Math.Path.{fun_ext}
 use Rattle.dh_syntax.specs.Expressions.Nesting.{nesting}
@@ -9,7 +9,7 @@ use Rattle.dh_syntax.specs.Limits.{most_nesting}
 use Rattle.dh_syntax.specs.Names.Moves.{moved_row}
 use Rattle.dh_syntax.specs.Names.Nameless.{Ref, Bound, Free, Core, past, nearest, ref_of, going_nameless, core_below, to_core}
 use Rattle.dh_syntax.specs.Normalising.NamelessRuns.{cores}
-use Rattle.dh_syntax.specs.Typing.Inference.{Inference, Judgment, Has, Ill, IsWide, IsDeep, IsOver, IsOverAside, IsShallow, ComesTo}
+use Rattle.dh_syntax.specs.Typing.Inference.{Judgment, Has, Ill, IsWide, IsDeep, IsOver, IsOverAside, ComesTo}
 use Rattle.dh_syntax.specs.Typing.NamelessTyping.{type_in, core_scopes}
 use Rattle.dh_syntax.specs.Typing.Scopes.{Context}
 use Rattle.dh_syntax.specs.Typing.TypeRules as rule
@@ -22,7 +22,7 @@ use Rattle.dh_typing_laws.proofs.Ruling.Typings.{typing-is_over}
 use Rattle.dh_infer.specs.Inside.Debts.{whole, Lags, Meets}
 use Rattle.dh_infer.specs.Inside.Lettered.{lettering, lettered}
 use Rattle.dh_infer.specs.Inside.Levels.{moving, IsOf}
-use Rattle.dh_infer.specs.Inside.OpenTyping.{type_at, looking, typing_in, typing_at}
+use Rattle.dh_infer.specs.Inside.OpenTyping.{type_at, typing_in, typing_at}
 use Rattle.dh_infer.specs.Inside.TypeAnswers.{Answers}
 use Rattle.dh_infer.proofs.NestedTypes.{nested-type}
 use Rattle.dh_infer.proofs.RenamedJudgments.{renamed_lag}

@@ -1,5 +1,5 @@
 -- What waits for a type learns that there is none.
-use Rattle.std.specs.Prelude.{◌≡◌, ℕ, true, List, [], ◌∷◌, drop, Option, Some, None, IfSome, IfNone, refl}
+use Rattle.std.specs.Prelude.{◌≡◌, ℕ, true, List, [], ◌∷◌, drop, Option, Some, None, IfSome, IfNone}
 use Rattle.std.proofs.Common.{ap, sym, ◌∙◌, subst as along}
 use Rattle.dh_syntax.specs.Names.Nameless.{Core}
 use Rattle.dh_infer.specs.declared.frames.Failure.{Failure}

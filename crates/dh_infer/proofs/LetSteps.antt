@@ -1,5 +1,5 @@
 -- Steps of `let`, where codes are added on the way.
-use Rattle.std.specs.Prelude.{◌≡◌, ◌<◌, ℕ, Bool, true, false, List, [], ◌∷◌, drop, Option, Some, None, slice_get}
+use Rattle.std.specs.Prelude.{◌≡◌, ◌<◌, ℕ, Bool, true, false, List, ◌∷◌, drop, Some, None, slice_get}
 use Rattle.std.proofs.Common.{ap, sym, ◌∙◌, arith, set, subst as along}
 use Rattle.dh_syntax.specs.Names.Nameless.{Core}
 use Rattle.dh_syntax.specs.Normalising.NamelessRuns.{nameless_eq}

@@ -1,5 +1,5 @@
 -- What a letter in front of names changes in codes.
-use Rattle.std.specs.Prelude.{◌≡◌, ℕ, zero, suc, Bool, true, false, List, [], ◌∷◌, Option, Some, None, slice_get, IsTrue, Result, IfOk, refl}
+use Rattle.std.specs.Prelude.{◌≡◌, ℕ, zero, suc, true, false, List, ◌∷◌, Option, Some, None, slice_get, IsTrue, refl}
 use Rattle.std.proofs.Common.{ap, sym, ◌∙◌, subst as along}
 use Rattle.dh_syntax.specs.declared.expressions.Op.{Op}
 use Rattle.dh_syntax.specs.Expressions.Arity.{fits}
@@ -10,11 +10,9 @@ use Rattle.dh_store.specs.declared.codes.Code.TheVariants as codes
 use Rattle.dh_store.specs.declared.codes.CodeKid.{CodeKid}
 use Rattle.dh_store.specs.declared.codes.Codes.{Codes}
 use Rattle.dh_store.specs.Cells.{code_core, AreCoded}
-use Rattle.dh_store.specs.Coding.{Coded}
 use Rattle.dh_store.proofs.Fitting.{binders, fits-same}
-use Rattle.dh_norm.specs.Loaded.{IsLoaded, AreLoaded}
+use Rattle.dh_norm.specs.Loaded.{AreLoaded}
 use Rattle.dh_norm.specs.References.{Apart, lower, renamer, opened, start}
-use Rattle.dh_norm.proofs.LoadSteps.{pushed-Bound, pushed-Free}
 use Rattle.dh_norm.proofs.Loading.{loaded-Bound, loaded-Free, loaded-Node, opened-start}
 use Rattle.dh_terms.specs.declared.cores.Core.TheVariants as core_forms
 use Rattle.dh_terms.specs.declared.cores.CoreKid.{CoreKid}

@@ -1,4 +1,5 @@
 pub mod Agreeing
+pub mod AlikeCodes
 pub mod Answering
 pub mod AppliedSteps
 pub mod Applying
@@ -10,9 +11,11 @@ pub mod Counting
 pub mod Depending
 pub mod Emptiness
 pub mod FailedFrames
+pub mod FoundFacts
 pub mod FoundMore
 pub mod Holding
 pub mod Keeping
+pub mod KnownForms
 pub mod Leading
 pub mod LetSteps
 pub mod Lettering
@@ -27,6 +30,7 @@ pub mod Parting
 pub mod PartsOf
 pub mod Ranging
 pub mod Readiness
+pub mod Remembering
 pub mod RenamedJudgments
 pub mod RenamedRuns
 pub mod RenamedTyping

@@ -1,5 +1,5 @@
 -- What is answered for a nameless form, in the words of typing with names.
-use Rattle.std.specs.Prelude.{◌≡◌, ◌≤◌, ◌+◌, ℕ, [], refl}
+use Rattle.std.specs.Prelude.{◌≡◌, ◌+◌, ℕ, []}
 use Rattle.std.proofs.Common.{ap, sym, ◌∙◌, arith, inl, inr, subst as along}
 use Rattle.dh_syntax.specs.declared.faults.TypeFault.{TypeFault}
 use Rattle.dh_syntax.specs.declared.faults.TypeFault.TheVariants as faults

@@ -1,8 +1,8 @@
 -- A type nests deeper than the limit only where one of the normalisings of its inference is licensed to be too deep.
 use Rattle.std.specs.Prelude.{◌≡◌, ◌≤◌, ◌⊎◌, ℕ, zero, suc, pred, nat_lt, Bool, true, false, not, ◌&&◌, is_some, IsTrue, map, List, [], ◌∷◌, Option, Some, None, option_map, option_and_then, slice_get, if◌then◌else◌, refl}
-use Rattle.std.proofs.Common.{ap, sym, ◌∙◌, arith, inl, inr, subst as along}
+use Rattle.std.proofs.Common.{sym, arith, inl, inr, subst as along}
 use Rattle.std.proofs.Math.Dec.{lit≤}
-use Rattle.std.proofs.lemmas.Bool.{ltb-true, ltb-false}
+use Rattle.std.proofs.lemmas.Bool.{ltb-false}
 use Rattle.dh_syntax.specs.declared.expressions.Op.{Op}
 use Rattle.dh_syntax.specs.declared.expressions.Op.TheVariants as ops
 use Rattle.dh_syntax.specs.declared.operators.BinOp.{BinOp}
@@ -23,7 +23,7 @@ use Rattle.dh_syntax.specs.Normalising.Heads.{Whole, Answer, Found, Wide, Deep, 
 use Rattle.dh_syntax.specs.Normalising.NamelessRuns.{nameless_eq, cores}
 use Rattle.dh_syntax.specs.Normalising.Normal.{endless, IsDeepLicensed}
 use Rattle.dh_syntax.specs.Typing.BuiltinTypes.{type_of}
-use Rattle.dh_syntax.specs.Typing.Inference.{Inference, Gives, Fails, Deeper, FromNormal, FromPart, Aside, Instead, Judgment, Has, Ill, IsWide, IsDeep, IsOver, IsOverAside, IsShallow, after_normal, after_part, after_aside, instead, judged_within, ComesTo, ComesToType, MeetsNormal}
+use Rattle.dh_syntax.specs.Typing.Inference.{Inference, Gives, Fails, Deeper, FromNormal, FromPart, Aside, Instead, Judgment, Has, Ill, IsWide, IsDeep, IsOver, IsOverAside, IsShallow, after_normal, after_part, after_aside, instead, judged_within, ComesToType, MeetsNormal}
 use Rattle.dh_syntax.specs.Typing.NamelessTyping.{mentions, down, nth_type, type_in, core_scopes}
 use Rattle.dh_syntax.specs.Typing.Scopes.{Context, enter}
 use Rattle.dh_syntax.specs.Typing.TypeRules as rule

@@ -67,7 +67,7 @@ get-map g [] j = refl
 get-map g (u ∷ us) zero = refl
 get-map g (u ∷ us) (suc j) = get-map g us j
 
-index-map : (g : ℕ → Core) (us : List ℕ) (j c : ℕ) → slice_get us j ≡ Some c → slice_index_or (map g us) j nothing ≡ g c
+pub index-map : (g : ℕ → Core) (us : List ℕ) (j c : ℕ) → slice_get us j ≡ Some c → slice_index_or (map g us) j nothing ≡ g c
 index-map g [] j c p = absurd cc
 index-map g (u ∷ us) zero c p = ap g (some-once u c p)
   where

@@ -3,14 +3,11 @@ use Rattle.std.specs.Prelude.{◌≡◌, ℕ, suc, false, List, Some, None, slic
 use Rattle.std.proofs.Common.{ap, sym, ◌∙◌}
 use Rattle.dh_syntax.specs.declared.expressions.Op.{Op}
 use Rattle.dh_syntax.specs.declared.expressions.Op.TheVariants as ops
-use Rattle.dh_syntax.specs.declared.operators.BinOp.TheVariants as bins
 use Rattle.dh_syntax.specs.declared.operators.Builtin.{Builtin}
 use Rattle.dh_syntax.specs.declared.operators.Builtin.TheVariants as builtins
-use Rattle.dh_syntax.specs.Expressions.Forms as form
 use Rattle.dh_syntax.specs.Expressions.Tree.{Row, Leaf, Node, Name}
 use Rattle.dh_syntax.specs.Names.Nameless as ref
 use Rattle.dh_syntax.specs.Names.Nameless.{Ref, Core, sub}
-use Rattle.dh_syntax.specs.Typing.Inference.{Gives}
 use Rattle.dh_syntax.specs.Typing.TypeViews.{is_constant}
 use Rattle.dh_infer.specs.declared.forms.Form.{Form}
 use Rattle.dh_infer.specs.declared.forms.Form.TheVariants as forms

@@ -1,9 +1,7 @@
 -- One step of the machine after the others, and its end.
-use Rattle.std.specs.Prelude.{◌≡◌, ◌<◌, ℕ, List, [], ◌∷◌, refl}
+use Rattle.std.specs.Prelude.{◌≡◌, ℕ, List, [], ◌∷◌, refl}
 use Rattle.std.proofs.Common.{ap, sym, subst as along}
-use Rattle.dh_syntax.specs.declared.faults.NormFault.TheVariants as faults
 use Rattle.dh_syntax.specs.declared.purses.Purse.{Purse}
-use Rattle.dh_syntax.specs.Names.Nameless.{Core}
 use Rattle.dh_store.specs.declared.codes.Codes.{Codes}
 use Rattle.dh_store.specs.Cells.{code_core}
 use Rattle.dh_infer.specs.declared.frames.Failure.{Failure}
@@ -12,10 +10,9 @@ use Rattle.dh_infer.specs.declared.frames.State.{State}
 use Rattle.dh_infer.specs.declared.frames.State.TheVariants as states
 use Rattle.dh_infer.specs.declared.frames.Typer.{Typer}
 use Rattle.dh_infer.specs.declared.halts.Halt.{Halt}
-use Rattle.dh_infer.specs.declared.halts.Halt.TheVariants as halts
 use Rattle.dh_infer.specs.declared.steps.Ending.TheVariants as endings
 use Rattle.dh_infer.specs.Inside.Debts.{Root}
-use Rattle.dh_infer.specs.Inside.Machine.{debts, IsOwed, Works, IsReady, Advances, IsHalted, Halts, with_frame}
+use Rattle.dh_infer.specs.Inside.Machine.{debts, IsOwed, IsReady, Advances, IsHalted, Halts, with_frame}
 use Rattle.dh_infer.specs.Inside.Scopes.{Models}
 use Rattle.dh_infer.specs.Inside.Steps.{IsAtWork, Ends}
 use Rattle.dh_infer.proofs.Readiness.{with_frames}

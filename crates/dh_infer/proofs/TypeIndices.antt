@@ -17,8 +17,6 @@ use Rattle.dh_syntax.specs.Names.Nameless as nameless
 use Rattle.dh_syntax.specs.Normalising.NamelessRuns.{cores}
 use Rattle.dh_norm.specs.References.{Apart, below, lower, renamer, opened}
 use Rattle.dh_syntax.specs.Typing.Inference.{Has, judged_within, ComesTo}
-use Rattle.dh_syntax.specs.Typing.NamelessTyping.{core_scopes}
-use Rattle.dh_syntax.specs.Typing.Typing.{typing}
 use Rattle.dh_typing_laws.specs.Judgments.{judgment_map}
 use Rattle.dh_infer.specs.Inside.OpenTyping.{type_at, typing_at}
 use Rattle.dh_infer.specs.Inside.TypeAnswers.{Answers}

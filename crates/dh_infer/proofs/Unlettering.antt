@@ -1,5 +1,5 @@
 -- Nameless expressions that are made of codes whose free variables have a letter more.
-use Rattle.std.specs.Prelude.{◌≡◌, ◌<◌, ◌≤◌, ◌+◌, ◌++◌, ℕ, List, [], ◌∷◌, length, drop, Option, Some, None, refl}
+use Rattle.std.specs.Prelude.{◌≡◌, ◌<◌, ◌≤◌, ◌+◌, ◌++◌, ℕ, List, [], ◌∷◌, length, drop, Option}
 use Rattle.std.proofs.Common.{ap, sym, ◌∙◌, get_or, subst as along}
 use Rattle.std.proofs.lemmas.List.{drop_more, drop_all}
 use Rattle.dh_syntax.specs.Expressions.Rows.{◌+++◌}

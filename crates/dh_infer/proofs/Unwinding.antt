@@ -1,5 +1,5 @@
 -- What has no type is no type of what it is a part of.
-use Rattle.std.specs.Prelude.{◌≡◌, ℕ, true, List, [], ◌∷◌, ◌++◌, drop, reverse, refl}
+use Rattle.std.specs.Prelude.{◌≡◌, ℕ, true, List, [], ◌∷◌, drop, reverse, refl}
 use Rattle.std.proofs.Common.{ap, sym, ◌∙◌, subst as along}
 use Rattle.std.proofs.lemmas.List.{reverse-append}
 use Rattle.dh_syntax.specs.Names.Nameless.{Core}

@@ -1,6 +1,8 @@
 -- Words of private clauses alone.
 pub mod Debts
+pub mod Facts
 pub mod Forms
+pub mod Known
 pub mod Leaving
 pub mod Lettered
 pub mod Levels
@@ -11,6 +13,7 @@ pub mod OpenTyping
 pub mod Opening
 pub mod Rests
 pub mod Scopes
+pub mod Sharing
 pub mod Steps
 pub mod Turns
 pub mod TypeAnswers

@@ -1,6 +1,6 @@
 //! The rule of a node is followed one step: to a type, to a refusal, or to what it wants to know of a part.
 
-ghost use Rattle.std.specs.Prelude.{◌≡◌, ◌<◌, ℕ, length, map, IfOk, IfErr, IfSome, Some, slice_get};
+ghost use Rattle.std.specs.Prelude.{◌≡◌, ◌<◌, ℕ, length, map, IfOk, IfErr, IfSome, Some, slice_get, OnOk};
 ghost use Rattle.std.specs.Option.{option_map};
 ghost use Rattle.dh_syntax.specs.Names.Nameless.{Core, sub};
 ghost use Rattle.dh_store.specs.Cells.{code_core, AreBelow, AreCoded};
@@ -11,6 +11,7 @@ ghost use Rattle.dh_types.specs.Growing.{Grows};
 ghost use Rattle.dh_types.specs.There.{IsFoundThere, IsStepThere};
 ghost use Rattle.dh_types.specs.declared.steps.Step.TheVariants as steps;
 ghost use Rattle.dh_typerows.specs.Groups.{IsLabelled};
+ghost use Rattle.dh_infer.specs.Inside.Known.{IsKnown};
 ghost use Rattle.dh_infer.specs.Inside.Machine.{Advances, Halts, IsPlainNode, IsReady, with_frame};
 ghost use Rattle.dh_infer.specs.Inside.Rests.{bodies_of, op_of, rule_of, IsStepOf};
 ghost use Rattle.dh_infer.specs.Inside.Scopes.{Models};
@@ -22,7 +23,8 @@ use crate::beginnings::refuse;
 use crate::founds::{with_normal, with_universe};
 use crate::frames::{Frame, State, Typer};
 use crate::halts::Halt;
-use crate::normals::{normal_code, normal_in_scope};
+use crate::known::{Known, known_form};
+use crate::normals::normal_in_scope;
 use dh_infer_ops::operator_step;
 use dh_store::{CodeId, CodeKid, Codes};
 use dh_syntax::{Op, Purse};
@@ -59,7 +61,7 @@ fn code_at(kids: &[CodeKid], part: u32) -> Option<CodeId>
 }
 
 /// The type with this number, of these.
-fn type_at(types: &[CodeId], part: u32) -> Option<CodeId>
+pub(crate) fn type_at(types: &[CodeId], part: u32) -> Option<CodeId>
     ensures { result ≡ slice_get types.now part }
 {
     match types.get(part as usize) {
@@ -129,18 +131,21 @@ fn formed(
     alloc: Global,
     typer: &mut Typer,
     purse: &mut Purse,
+    known: &mut Known,
     code: CodeId,
     types: &Vec<CodeId>,
     found: &Found,
     typed: CodeId,
 ) -> Result<State, Halt>
     requires ready { IsReady typer.old (states.Rule code types.now found.now) }
+    requires known { (g : ℕ → Core) → Models typer.old.codes g → IsKnown g known.old }
     requires asked { (g : ℕ → Core) → Models typer.old.codes g → IsStepOf g code types.now.items found.now (Some (steps.Forms typed)) }
     requires there { typed < count typer.old.codes }
     ensures ok { IfOk result (λ s. Advances typer.old typer.new (states.Rule code types.now found.now) s purse.old.left purse.new.left) }
     ensures err { IfErr result (λ h. Halts typer.old (states.Rule code types.now found.now) purse.old.left h) }
+    ensures known { OnOk result ((g : ℕ → Core) → Models typer.new.codes g → IsKnown g known.new) }
 {
-    let normal = normal_code(alloc, &mut typer.codes, typed, purse)?;
+    let normal = known_form(alloc, &mut typer.codes, known, typed, purse)?;
     Ok(State::Typed(normal))
 }
 
@@ -200,20 +205,23 @@ fn go_on(
     alloc: Global,
     typer: &mut Typer,
     purse: &mut Purse,
+    known: &mut Known,
     code: CodeId,
     types: Vec<CodeId>,
     found: Found,
     step: Step,
 ) -> Result<State, Halt>
     requires ready { IsReady typer.old (states.Rule code types found) }
+    requires known { (g : ℕ → Core) → Models typer.old.codes g → IsKnown g known.old }
     requires asked { (g : ℕ → Core) → Models typer.old.codes g → IsStepOf g code types.items found (Some step) }
     requires there { IsStepThere typer.old.codes step }
     ensures ok { IfOk result (λ s. Advances typer.old typer.new (states.Rule code types found) s purse.old.left purse.new.left) }
     ensures err { IfErr result (λ h. Halts typer.old (states.Rule code types found) purse.old.left h) }
+    ensures known { OnOk result ((g : ℕ → Core) → Models typer.new.codes g → IsKnown g known.new) }
 {
     match step {
         Step::Takes(typed) => Ok(State::Typed(typed)),
-        Step::Forms(typed) => formed(alloc, typer, purse, code, &types, &found, typed),
+        Step::Forms(typed) => formed(alloc, typer, purse, known, code, &types, &found, typed),
         Step::Refuses(rule) => Ok(refuse(alloc, rule)),
         Step::WantsNormal(part) => normal_wanted(alloc, typer, purse, code, types, found, part),
         Step::WantsUniverse(part) => universe_wanted(alloc, typer, purse, code, types, found, part),
@@ -225,16 +233,19 @@ pub(crate) fn ask(
     alloc: Global,
     typer: &mut Typer,
     purse: &mut Purse,
+    known: &mut Known,
     code: CodeId,
     types: Vec<CodeId>,
     found: Found,
 ) -> Result<State, Halt>
     requires ready { IsReady typer.old (states.Rule code types found) }
+    requires known { (g : ℕ → Core) → Models typer.old.codes g → IsKnown g known.old }
     ensures ok { IfOk result (λ s. Advances typer.old typer.new (states.Rule code types found) s purse.old.left purse.new.left) }
     ensures err { IfErr result (λ h. Halts typer.old (states.Rule code types found) purse.old.left h) }
+    ensures known { OnOk result ((g : ℕ → Core) → Models typer.new.codes g → IsKnown g known.new) }
 {
     match step_of(alloc, typer, code, &types, &found)? {
-        Some(step) => go_on(alloc, typer, purse, code, types, found, step),
+        Some(step) => go_on(alloc, typer, purse, known, code, types, found, step),
         None => Ok(refuse(alloc, NOT_RESOLVED)),
     }
 }

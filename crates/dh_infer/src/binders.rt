@@ -2,10 +2,13 @@
 
 ghost use Rattle.std.specs.Prelude.{◌≡◌, ◌<◌, ℕ, length, drop, IfOk, IfErr, OnOk};
 ghost use Rattle.dh_syntax.specs.Expressions.Tree.{Leaf};
+ghost use Rattle.dh_syntax.specs.Names.Nameless.{Core};
 ghost use Rattle.dh_syntax.specs.Typing.Universes.{function_check};
 ghost use Rattle.dh_store.specs.Cells.{outside, AreCoded};
 ghost use Rattle.dh_types.specs.Growing.{Grows, Stands};
+ghost use Rattle.dh_infer.specs.Inside.Known.{IsKnown};
 ghost use Rattle.dh_infer.specs.Inside.Opening.{Opens};
+ghost use Rattle.dh_infer.specs.Inside.Scopes.{Models};
 ghost use Rattle.dh_infer.specs.Inside.OpenTyping.{level};
 ghost use Rattle.dh_infer.specs.Inside.Machine.{Advances, Halts, IsReady, with_frame};
 ghost use Rattle.dh_infer.specs.declared.frames.Frame.TheVariants as frames;
@@ -14,7 +17,7 @@ ghost use Rattle.dh_infer.specs.declared.frames.State.TheVariants as states;
 use crate::beginnings::refuse;
 use crate::frames::{Entry, Frame, State, Typer};
 use crate::halts::Halt;
-use crate::normals::{normal_code, normal_in_scope};
+use crate::known::{Known, known_form, shared_normal};
 use crate::piles::Pile;
 use dh_store::{Code, CodeId, Codes};
 use dh_syntax::{Builtin, Label, Purse};
@@ -71,6 +74,7 @@ fn leave(typer: &mut Typer)
 pub(crate) fn lambda_domain(
     alloc: Global,
     typer: &mut Typer,
+    known: &mut Known,
     name: Label,
     domain: CodeId,
     body: CodeId,
@@ -78,13 +82,15 @@ pub(crate) fn lambda_domain(
     purse: &mut Purse,
 ) -> Result<State, Halt>
     requires ready { IsReady (with_frame (frames.LambdaDomain name domain body) typer.old) (states.Typed typed) }
+    requires known { (g : ℕ → Core) → Models typer.old.codes g → IsKnown g known.old }
     ensures ok { IfOk result (λ s. Advances (with_frame (frames.LambdaDomain name domain body) typer.old) typer.new (states.Typed typed) s purse.old.left purse.new.left) }
     ensures err { IfErr result (λ h. Halts (with_frame (frames.LambdaDomain name domain body) typer.old) (states.Typed typed) purse.old.left h) }
+    ensures known { OnOk result ((g : ℕ → Core) → Models typer.new.codes g → IsKnown g known.new) }
 {
     let Some(_) = universe_of(&typer.codes, typed) else {
         return Ok(refuse(alloc, 3));
     };
-    let normal = normal_in_scope(alloc, typer, domain, purse)?;
+    let normal = shared_normal(alloc, typer, known, domain, purse)?;
     let number = next_number(&typer.levels)?;
     enter(
         alloc,
@@ -100,6 +106,7 @@ pub(crate) fn lambda_domain(
 pub(crate) fn lambda_body(
     alloc: Global,
     typer: &mut Typer,
+    known: &mut Known,
     name: Label,
     domain: CodeId,
     number: u32,
@@ -107,8 +114,10 @@ pub(crate) fn lambda_body(
     purse: &mut Purse,
 ) -> Result<State, Halt>
     requires ready { IsReady (with_frame (frames.LambdaBody name domain number) typer.old) (states.Typed typed) }
+    requires known { (g : ℕ → Core) → Models typer.old.codes g → IsKnown g known.old }
     ensures ok { IfOk result (λ s. Advances (with_frame (frames.LambdaBody name domain number) typer.old) typer.new (states.Typed typed) s purse.old.left purse.new.left) }
     ensures err { IfErr result (λ h. Halts (with_frame (frames.LambdaBody name domain number) typer.old) (states.Typed typed) purse.old.left h) }
+    ensures known { OnOk result ((g : ℕ → Core) → Models typer.new.codes g → IsKnown g known.new) }
 {
     leave(typer);
     if is_constant(&typer.codes, Builtin::Sort, typed) {
@@ -116,7 +125,7 @@ pub(crate) fn lambda_body(
     }
     let range = bound_in(alloc, &mut typer.codes, typed, number)?;
     let function = function_type(alloc, &mut typer.codes, name, domain, range)?;
-    let found = normal_code(alloc, &mut typer.codes, function, purse)?;
+    let found = known_form(alloc, &mut typer.codes, known, function, purse)?;
     Ok(State::Typed(found))
 }
 
@@ -124,6 +133,7 @@ pub(crate) fn lambda_body(
 pub(crate) fn forall_domain(
     alloc: Global,
     typer: &mut Typer,
+    known: &mut Known,
     name: Label,
     domain: CodeId,
     range: CodeId,
@@ -131,13 +141,15 @@ pub(crate) fn forall_domain(
     purse: &mut Purse,
 ) -> Result<State, Halt>
     requires ready { IsReady (with_frame (frames.ForallDomain name domain range) typer.old) (states.Typed typed) }
+    requires known { (g : ℕ → Core) → Models typer.old.codes g → IsKnown g known.old }
     ensures ok { IfOk result (λ s. Advances (with_frame (frames.ForallDomain name domain range) typer.old) typer.new (states.Typed typed) s purse.old.left purse.new.left) }
     ensures err { IfErr result (λ h. Halts (with_frame (frames.ForallDomain name domain range) typer.old) (states.Typed typed) purse.old.left h) }
+    ensures known { OnOk result ((g : ℕ → Core) → Models typer.new.codes g → IsKnown g known.new) }
 {
     let Some(universe) = universe_of(&typer.codes, typed) else {
         return Ok(refuse(alloc, 5));
     };
-    let normal = normal_in_scope(alloc, typer, domain, purse)?;
+    let normal = shared_normal(alloc, typer, known, domain, purse)?;
     let number = next_number(&typer.levels)?;
     enter(alloc, typer, number, normal, Frame::ForallRange(universe))?;
     Ok(State::Type(range))

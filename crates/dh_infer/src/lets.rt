@@ -1,13 +1,17 @@
 //! `let`: the value is typed, and its normal form stands for the variable in the body.
 
-ghost use Rattle.std.specs.Prelude.{◌≡◌, ◌<◌, ℕ, IfOk, IfErr};
+ghost use Rattle.std.specs.Prelude.{◌≡◌, ◌<◌, ℕ, IfOk, IfErr, OnOk};
+ghost use Rattle.dh_syntax.specs.Names.Nameless.{Core};
+ghost use Rattle.dh_infer.specs.Inside.Known.{IsKnown};
 ghost use Rattle.dh_infer.specs.Inside.Machine.{Advances, Halts, IsReady, with_frame};
+ghost use Rattle.dh_infer.specs.Inside.Scopes.{Models};
 ghost use Rattle.dh_infer.specs.declared.frames.Frame.TheVariants as frames;
 ghost use Rattle.dh_infer.specs.declared.frames.State.TheVariants as states;
 
 use crate::beginnings::refuse;
 use crate::frames::{Entry, Frame, State, Typer};
 use crate::halts::Halt;
+use crate::known::{Known, shared_normal};
 use crate::normals::normal_in_scope;
 use dh_store::CodeId;
 use dh_syntax::Purse;
@@ -71,16 +75,19 @@ pub(crate) fn let_value(
 pub(crate) fn bind(
     alloc: Global,
     typer: &mut Typer,
+    known: &mut Known,
     value: CodeId,
     body: CodeId,
     part: u32,
     purse: &mut Purse,
 ) -> Result<State, Halt>
     requires ready { IsReady typer.old (states.Bind value body part) }
+    requires known { (g : ℕ → Core) → Models typer.old.codes g → IsKnown g known.old }
     ensures ok { IfOk result (λ s. Advances typer.old typer.new (states.Bind value body part) s purse.old.left purse.new.left) }
     ensures err { IfErr result (λ h. Halts typer.old (states.Bind value body part) purse.old.left h) }
+    ensures known { OnOk result ((g : ℕ → Core) → Models typer.new.codes g → IsKnown g known.new) }
 {
-    let held = normal_in_scope(alloc, typer, value, purse)?;
+    let held = shared_normal(alloc, typer, known, value, purse)?;
     typer.frames.push(Frame::LetBody(part))?;
     typer.scope.push(Entry {
         value: held,

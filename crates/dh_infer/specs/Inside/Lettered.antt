@@ -1,7 +1,6 @@
 -- Expressions of the program as the machine takes them: each variable that no binder binds has one letter more in front of its name,
 -- so that it is none of those that have numbers.
-use Rattle.std.specs.Prelude.{◌≡◌, ℕ, ◌∷◌, refl}
-use Rattle.std.proofs.Common.{ap}
+use Rattle.std.specs.Prelude.{◌≡◌, ℕ, ◌∷◌}
 use Rattle.dh_syntax.specs.Expressions.Tree.{Row, Name}
 use Rattle.dh_syntax.specs.Names.Moves.{moved_row}
 use Rattle.dh_syntax.specs.Names.Nameless.{Ref, Bound, Free, Core}

@@ -9,6 +9,7 @@ use Rattle.dh_infer.specs.Inside.Scopes.{Models}
 use Rattle.dh_infer.proofs.AskedRules.{unruled-as}
 use Rattle.dh_infer.proofs.Depending.{halts-grown}
 use Rattle.dh_infer.proofs.Readiness.{ready-grown, advances-grown}
+use Rattle.dh_infer.proofs.Remembering.{keeps-grown}
 use Rattle.dh_infer.proofs.asking.ask.Goals as goal
 
 pub go_on-requires-clause-ready : goal.go_on-requires-clause-ready
@@ -40,3 +41,9 @@ returns-in-None-clause-ok c =
     along (λ z. Advances m z s c.refuse.result c.args.purse.now.left c.args.purse.now.left) (sym c.in_ok-step.ensures.rest)
     (unruled-as m c.args.code c.args.types c.args.found c.args.purse.now.left c.requires.ready c.step_of.new.typer.codes c.in_ok-step.ensures.grows
     (along (λ z. (g : ℕ → Core) → Models c.step_of.new.typer.codes g → IsStepOf g c.args.code c.args.types.items c.args.found z) c.in-None.is c.in_ok-step.ensures.asked) c.refuse.result c.refuse.ensures)
+
+pub go_on-requires-clause-known : goal.go_on-requires-clause-known
+go_on-requires-clause-known c = keeps-grown c.args.typer.now.codes c.step_of.new.typer.codes c.args.known.now c.in_ok-step.ensures.grows c.requires.known
+
+pub returns-in-None-clause-known : goal.returns-in-None-clause-known
+returns-in-None-clause-known c = keeps-grown c.args.typer.now.codes c.step_of.new.typer.codes c.args.known.now c.in_ok-step.ensures.grows c.requires.known

@@ -11,5 +11,5 @@ returns-in_err-normal-clause-err c =
 
 pub returns-clause-ok : goal.returns-clause-ok
 returns-clause-ok c =
-    formed-as c.args.typer.now c.args.code c.args.types.now c.args.found.now c.args.purse.now.left c.requires.ready c.args.typed c.requires.asked c.normal_code.new.codes c.in_ok-normal.ensures.grows c.in_ok-normal.normal c.normal_code.new.purse.left
+    formed-as c.args.typer.now c.args.code c.args.types.now c.args.found.now c.args.purse.now.left c.requires.ready c.args.typed c.requires.asked c.known_form.new.codes c.in_ok-normal.ensures.grows c.in_ok-normal.normal c.known_form.new.purse.left
     c.in_ok-normal.ensures.ok

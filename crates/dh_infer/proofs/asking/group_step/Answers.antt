@@ -1,4 +1,4 @@
-use Rattle.std.proofs.Common.{ap, sym, ◌∙◌, subst as along}
+use Rattle.std.proofs.Common.{subst as along}
 use Rattle.std.proofs.lemmas.Result.{IfOk-weaker}
 use Rattle.std.specs.Prelude.{◌≡◌, map, option_map}
 use Rattle.dh_syntax.specs.Typing.NamelessTyping.{core_scopes}

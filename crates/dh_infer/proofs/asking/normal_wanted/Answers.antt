@@ -1,7 +1,6 @@
-use Rattle.std.specs.Prelude.{◌≡◌, ℕ, Some, option_map, slice_get}
+use Rattle.std.specs.Prelude.{option_map}
 use Rattle.std.proofs.Common.{ap, sym, ◌∙◌, subst as along}
 use Rattle.dh_norm.proofs.Running.{handed-on}
-use Rattle.dh_syntax.specs.Names.Nameless.{Core, sub}
 use Rattle.dh_infer.specs.declared.frames.State.TheVariants as states
 use Rattle.dh_infer.specs.Inside.Machine.{Advances, Halts}
 use Rattle.dh_infer.specs.Inside.Scopes.{env, in_scope}

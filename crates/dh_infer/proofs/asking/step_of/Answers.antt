@@ -1,4 +1,3 @@
-use Rattle.std.specs.Prelude.{◌≡◌, map, length, option_map, Option, Some, None, Result, Ok, Err, IfOk, IfSome}
 use Rattle.std.proofs.Common.{sym, subst as along}
 use Rattle.dh_types.specs.ClosedSteps.{AreTypesClosed}
 use Rattle.dh_store.specs.Cells.{code_core}

@@ -1,6 +1,5 @@
-use Rattle.std.specs.Prelude.{◌≡◌, ℕ, Some, None, option_map}
-use Rattle.std.proofs.Common.{ap, sym, ◌∙◌, subst as along}
-use Rattle.dh_syntax.specs.Names.Nameless.{Core}
+use Rattle.std.specs.Prelude.{option_map}
+use Rattle.std.proofs.Common.{ap, sym, ◌∙◌}
 use Rattle.dh_store.specs.Cells.{code_core}
 use Rattle.dh_infer.specs.declared.frames.State.TheVariants as states
 use Rattle.dh_infer.proofs.Modelled.{models-before}

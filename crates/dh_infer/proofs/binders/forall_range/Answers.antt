@@ -1,4 +1,4 @@
-use Rattle.std.proofs.Common.{sym, ◌∙◌, ap, subst as along}
+use Rattle.std.proofs.Common.{subst as along}
 use Rattle.dh_syntax.specs.Expressions.Forms as form
 use Rattle.dh_types.specs.Growing.{Stands}
 use Rattle.dh_infer.proofs.Opening.{range-refused, range-typed}

@@ -3,6 +3,7 @@ use Rattle.dh_norm.proofs.Running.{handed-on}
 use Rattle.dh_syntax.specs.Typing.Universes.{as_universe}
 use Rattle.dh_infer.proofs.Binding.{lambda-no_universe, lambda-halts}
 use Rattle.dh_infer.proofs.Opening.{lambda-begins, none-else, seen}
+use Rattle.dh_infer.proofs.Remembering.{keeps-grown}
 use Rattle.dh_infer.proofs.binders.lambda_domain.Goals as goal
 
 pub returns-in_default-clause-ok : goal.returns-in_default-clause-ok
@@ -22,6 +23,9 @@ returns-in_err-normal-clause-err c =
 
 pub returns-clause-ok : goal.returns-clause-ok
 returns-clause-ok c =
-    lambda-begins c.args.typer.now c.normal_in_scope.new.typer c.enter.new.typer c.args.name c.args.domain c.args.body c.args.typed c.args.purse.now.left c.normal_in_scope.new.purse.left
+    lambda-begins c.args.typer.now c.shared_normal.new.typer c.enter.new.typer c.args.name c.args.domain c.args.body c.args.typed c.args.purse.now.left c.shared_normal.new.purse.left
     c.in_ok-number.number c.in_ok-normal.normal c.in-Some.field-0 c.in-Some.ensures c.in_ok-normal.ensures.rest c.in_ok-normal.ensures.grows c.in_ok-number.ensures c.in_ok-normal.ensures.ok c.requires.ready
     c.in_ok-enter.ensures
+
+pub returns-clause-known : goal.returns-clause-known
+returns-clause-known c = keeps-grown c.shared_normal.new.typer.codes c.enter.new.typer.codes c.shared_normal.new.known c.in_ok-enter.ensures.grows c.in_ok-normal.ensures.known

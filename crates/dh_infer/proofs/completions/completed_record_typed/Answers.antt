@@ -1,8 +1,6 @@
-use Rattle.std.proofs.Common.{ap, sym, ◌∙◌}
 use Rattle.dh_infer.specs.declared.frames.Frame.TheVariants as frames
 use Rattle.dh_infer.specs.declared.frames.State.TheVariants as states
 use Rattle.dh_infer.specs.Inside.Machine.{with_frame}
-use Rattle.dh_infer.specs.Inside.Rests.{longer}
 use Rattle.dh_infer.proofs.Completing.{after-record, longer-of}
 use Rattle.dh_infer.proofs.Readiness.{advances-to, advances-grown, ready-grown, with_codes}
 use Rattle.dh_infer.proofs.completions.completed_record_typed.Goals as goal

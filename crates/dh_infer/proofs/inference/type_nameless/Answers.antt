@@ -4,7 +4,6 @@ use Rattle.dh_syntax.specs.Expressions.Arity.{IsWellFormed}
 use Rattle.dh_syntax.specs.Typing.Inference.{Has}
 use Rattle.dh_store.specs.Cells.{code_core}
 use Rattle.dh_terms.specs.Cores.{nameless}
-use Rattle.dh_infer.specs.declared.steps.Ending.TheVariants as endings
 use Rattle.dh_infer.specs.Inside.Debts.{whole}
 use Rattle.dh_infer.specs.Inside.Lettered.{lettered}
 use Rattle.dh_infer.specs.Inside.Steps.{Ends}

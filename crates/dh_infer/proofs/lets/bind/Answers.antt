@@ -10,5 +10,5 @@ returns-in_err-held-clause-err c =
 
 pub returns-clause-ok : goal.returns-clause-ok
 returns-clause-ok c =
-    value-bound c.args.typer.now c.normal_in_scope.new.typer c.args.value c.args.body c.args.part c.args.purse.now.left c.in_ok-held.held c.normal_in_scope.new.purse.left c.requires.ready
+    value-bound c.args.typer.now c.shared_normal.new.typer c.args.value c.args.body c.args.part c.args.purse.now.left c.in_ok-held.held c.shared_normal.new.purse.left c.requires.ready
     c.in_ok-held.ensures.rest c.in_ok-held.ensures.grows c.in_ok-held.ensures.ok c.push-2.new.self c.push.new.self c.in_ok-push-2.ensures.ok c.in_ok-push.ensures.ok

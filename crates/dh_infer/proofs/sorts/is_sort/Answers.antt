@@ -1,7 +1,7 @@
 use Rattle.std.proofs.Common.{sym, ◌∙◌, ap}
 use Rattle.dh_syntax.specs.declared.operators.Builtin.TheVariants as builtins
 use Rattle.dh_syntax.specs.Typing.TypeViews.{is_constant}
-use Rattle.dh_infer.proofs.SortTests.{value-sort, past-sort, builtin-sort, other-sort}
+use Rattle.dh_infer.proofs.SortTests.{value-sort, past-sort}
 use Rattle.dh_infer.proofs.Starting.{entry-there}
 use Rattle.dh_store.specs.Growth.{count}
 use Rattle.dh_infer.proofs.sorts.is_sort.Goals as goal
