@@ -2,6 +2,7 @@ pub mod Brought
 pub mod Calls
 pub mod Ends
 pub mod Entries
+pub mod Finds
 pub mod Inside
 pub mod Items
 pub mod Kept

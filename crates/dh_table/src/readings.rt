@@ -8,6 +8,7 @@ ghost use Rattle.dh_syntax.specs.Imports.Machine.{outcome_of};
 ghost use Rattle.dh_syntax.specs.Imports.Records.{Found, text_at};
 ghost use Rattle.dh_syntax.specs.Imports.TextPaths.{text_path};
 ghost use Rattle.dh_demand.specs.Scans.{text_key};
+ghost use Rattle.dh_table.specs.Finds.{bytes_found};
 ghost use Rattle.dh_table.specs.States.{record_of, state_of};
 
 use crate::digests::digests_of;
@@ -20,15 +21,17 @@ use dh_syntax::{Digest, Loc};
 use std::alloc::{AllocError, Global};
 
 impl<W: World> Table<W> {
-    /// The bytes that were found at a location.
+    /// The bytes that were found at a location, where a text was found there.
     pub fn bytes_at(&self, loc: &Loc) -> Option<&[u8]>
-        ensures { (bytes : List ℕ) (allow : Option (List ℕ)) (e : Term) → text_at (record_of self.now) loc.now ≡ Some (Found bytes allow (Ok e)) → option_copied result ≡ Some bytes }
+        ensures exact { option_copied result ≡ bytes_found (text_at (record_of self.now) loc.now) }
+        ensures found { (bytes : List ℕ) (allow : Option (List ℕ)) (e : Term) → text_at (record_of self.now) loc.now ≡ Some (Found bytes allow (Ok e)) → option_copied result ≡ Some bytes }
     {
         let texts = Texts::of(self.texts.as_slice(), &self.text_order);
         let text = text_at(&texts, loc)?;
-        match &text.got {
-            Noted::Got(Got::Found(found)) => Some(found.bytes.as_slice()),
-            Noted::Got(Got::Absent) | Noted::Got(Got::Broken(_)) | Noted::Failed => None,
+        match (&text.got, &text.read) {
+            (Noted::Got(Got::Found(found)), Some(_)) => Some(found.bytes.as_slice()),
+            (Noted::Got(Got::Found(_)), None) => None,
+            (Noted::Got(Got::Absent) | Noted::Got(Got::Broken(_)) | Noted::Failed, _) => None,
         }
     }
 

@@ -29,7 +29,7 @@ pub struct Ticket {
 }
 
 /// The table of one run. What it records is what the world tells, where that tells.
-#[derive(Debug, Drop)]
+#[derive(Debug)]
 pub struct Table<W: World> {
     pub(crate) root: Scan,
     pub(crate) keys: Entrants,
@@ -49,6 +49,28 @@ pub struct Table<W: World> {
     // what claims have found so far, and room for them
     pub(crate) scratch: Scratch,
     pub(crate) world: PhantomData<W>,
+}
+
+// Written by hand: a derived one puts the drop of each field inline wherever a table may die.
+impl<W: World> Drop for Table<W> {
+    fn drop(self) {
+        let Table {
+            root: _,
+            keys: _,
+            texts: _,
+            looks: _,
+            text_order: _,
+            look_order: _,
+            decided: _,
+            limited: _,
+            flights: _,
+            drawn: _,
+            history: _,
+            refused: _,
+            scratch: _,
+            world: _,
+        } = self;
+    }
 }
 
 impl<W: World> Model for Table<W> {
