@@ -1,17 +1,14 @@
 -- What one task adds to the counts of a worker.
-use Rattle.std.proofs.Common.{◌≡◌, ℕ, ◌+◌, ◌-◌, ◌^◌, ◌<◌, ◌≤◌, ◌⊎◌, inl, inr, Bool, true, false, refl, sym, ap, ◌∙◌, subst, arith}
+use Rattle.std.proofs.Common.{◌≡◌, ℕ, ◌+◌, ◌-◌, ◌^◌, ◌<◌, ◌≤◌, ◌⊎◌, inl, inr, Bool, true, false, refl, ap, arith}
 use Rattle.std.specs.Prelude.{if◌then◌else◌}
-use Rattle.dh_ports.specs.Counts.{one_more, Rose}
+use Rattle.dh_ports.specs.Counts.{Rose}
 use Rattle.dh_table.specs.Calls.{brings_failure}
 use Rattle.dh_table.specs.States.{news_of}
 use Rattle.dh_table.specs.declared.news.News.{News}
-use Rattle.dh_table.specs.declared.works.Work.{Work}
-use Rattle.dh_table.specs.declared.works.Work.TheVariants as works
 use Rattle.dh_shared.specs.Held.{Held}
-use Rattle.dh_shared.specs.Turns.{fetches_of}
 use Rattle.dh_work.specs.Brings.{TellsFailure}
-use Rattle.dh_session.specs.Inside.{asked_after, failures_told}
-use Rattle.dh_session.specs.Works.{AtLast, Asks, Fails}
+use Rattle.dh_session.specs.Inside.{failures_told}
+use Rattle.dh_session.specs.Works.{AtLast, Fails}
 
 -- a failure that is told is a fault
 one_failure : (fails : Bool) (before after failed failed' : ℕ) → (fails ≡ true → Rose before after) → before ≤ after → failed' ≤ failed + (if fails then 1 else 0)
@@ -36,16 +33,6 @@ fails_after a b c h i j (p, inl last) (q, s) = (omega arith, inl (omega arith))
 fails_after a b c h i j (p, inr le) (q, inl last) = (omega arith, inl last)
 fails_after a b c h i j (p, inr le) (q, inr le') = (omega arith, inr (omega arith))
 
--- a desk that is asked once more, and one more fetch
-asked_more : (a b : ℕ) (h i j : Held) → Asks a b h i → j.fetches ≡ i.fetches + 1 → Asks a (one_more b) h j
-asked_more a b h i j (inl last) more = inl (grind (arith, last))
-asked_more a b h i j (inr is) more = grind (arith, is, more)
-
-same_fetches : (a b : ℕ) (h i j : Held) → Asks a b h i → j.fetches ≡ i.fetches + 0 → Asks a b h j
-same_fetches a b h i j (inl last) same = inl last
-same_fetches a b h i j (inr is) same = inr (omega (arith, is, same))
-
-pub asks_after : (w : Work) (a b c : ℕ) (h i j : Held) → Asks a b h i → c ≡ asked_after w b → j.fetches ≡ i.fetches + fetches_of w → Asks a c h j
-asks_after (works.Fetch l) a b c h i j asks is more = subst (λ n. Asks a n h j) (sym is) (asked_more a b h i j asks more)
-asks_after (works.Look d) a b c h i j asks is more = subst (λ n. Asks a n h j) (sym is) (same_fetches a b h i j asks more)
-asks_after (works.Finish t) a b c h i j asks is more = subst (λ n. Asks a n h j) (sym is) (same_fetches a b h i j asks more)
+-- a claim that changes nothing does not find the run over
+pub same_overs : (h i : Held) → i ≡ h → i.overs ≡ h.overs + 0
+same_overs h i same = omega (arith, ap (λ (k : Held). k.overs) same)

@@ -102,7 +102,7 @@ pub ends : {P D S : Type 0} (ask fault : D → ℕ) (filed : D → Option (List 
 ends ask fault filed desk seat shares done xs ys left before after seats table was is seated len some new all each closed =
     let held : _ → Held = λ p. shares (seat p) in
     let s : Sums (λ p. ask (desk p)) (λ p. fault (desk p)) held xs ys = sums_rise (λ p. ask (desk p)) (λ p. fault (desk p)) held xs ys (sym len)
-    (λ i d lt. let e = each i d lt in let fine = all i d (omega arith) in record { asks = e.asks fine; fails = e.fails; frees = e.frees fine; over = e.over fine }) in
+    (λ i d lt. let e = each i d lt in let fine = all i d (omega arith) in record { asks = e.asks fine; fails = e.fails; frees = e.frees fine; delivers = e.delivers fine; over = e.over fine }) in
     let total : (f : Held → ℕ) → sum_by f (map shares seats) ≡ sum_by (λ p. f (held p)) ys
     = λ f. sum_mapped f shares seats ∙ sum_all (λ p. f (shares p)) seat ys [] seats seated ∙ (omega arith) in
     record {
@@ -115,6 +115,19 @@ ends ask fault filed desk seat shares done xs ys left before after seats table w
         total (λ (h : Held). h.releases),
         total (λ (h : Held). h.lates),
         sum_none held (λ (h : Held). h.releases) xs refl new,
+        sum_none held (λ (h : Held). h.lates) xs refl new,
+      );
+      delivered = omega (
+        arith,
+        closed.claims,
+        closed.kept,
+        closed.lates,
+        s.delivers,
+        total (λ (h : Held). h.claims),
+        total (λ (h : Held). h.kept),
+        total (λ (h : Held). h.lates),
+        sum_none held (λ (h : Held). h.claims) xs refl new,
+        sum_none held (λ (h : Held). h.kept) xs refl new,
         sum_none held (λ (h : Held). h.lates) xs refl new,
       );
       asks = asks_all ask desk held xs ys left before after table (sym was) is (sum_none held (λ (h : Held). h.fetches) xs refl new) (closed.fetches ∙ total (λ (h : Held). h.fetches)) s.asks;

@@ -4,7 +4,7 @@ use Rattle.dh_syntax.specs.Imports.Replay.{root_end}
 use Rattle.dh_table.specs.Calls.{failures}
 use Rattle.dh_table.specs.Shown.{Shown}
 use Rattle.dh_table.specs.States.{state_of}
-use Rattle.dh_shared.specs.Counting.{is_fetch_claim, is_release, is_late}
+use Rattle.dh_shared.specs.Counting.{is_claim, is_fetch_claim, is_recorded, is_release, is_late}
 use Rattle.dh_session.specs.Works.{AtLast}
 
 -- the desks were asked once for each fetch that was claimed, unless a count stands at its last value
@@ -24,5 +24,7 @@ pub data NoneFell : List ℕ → List ℕ → Type 0 where
 pub record Ends {D : Type 0} (asked faults : D → ℕ) (before after : List D) (table : Shown) : Type 0 where
   pub decided : IsSome (root_end (state_of table))
   pub releases : count_by is_release table.history ≤ count_by is_late table.history
+  -- news was delivered for each task that was claimed: it was recorded, or it came late
+  pub delivered : count_by is_claim table.history ≡ count_by is_recorded table.history + count_by is_late table.history
   pub asks : AsksAll asked before after table
   pub fails : FailsAll faults before after table

@@ -18,6 +18,10 @@ Fails before after old new = (before ≤ after) × (AtLast after ⊎ (new.failed
 abbrev pub FreesLate : Held → Held → Type 0
 FreesLate old new = new.releases + old.lates ≤ old.releases + new.lates
 
+-- news was delivered for each task that was claimed: it was kept, or it came late
+abbrev pub Delivers : Held → Held → Type 0
+Delivers old new = new.claims + old.kept + old.lates ≡ old.claims + new.kept + new.lates
+
 -- a worker that ended for want of memory did not find the run over, and gave back at most one ticket more
 abbrev pub EndsEarly : Held → Held → Type 0
 EndsEarly old new = (new.overs ≡ old.overs) × (new.releases + old.lates ≤ old.releases + new.lates + 1)

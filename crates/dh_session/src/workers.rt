@@ -1,21 +1,52 @@
 //! One worker: it claims tasks, works on them and delivers what it found, until the root is decided.
 
 ghost use Rattle.std.specs.Prelude.{◌≡◌, ◌+◌, ◌≤◌, IfOk, OnOk, OnErr};
+ghost use Rattle.dh_ports.specs.Counts.{one_more};
 ghost use Rattle.dh_shared.specs.Turns.{Brings};
 ghost use Rattle.dh_table.specs.Works.{IsFitWork};
-ghost use Rattle.dh_work.specs.Brings.{TellsFailure};
-ghost use Rattle.dh_session.specs.Inside.{asked_after, failures_told};
-ghost use Rattle.dh_session.specs.Works.{Asks, Fails, FreesLate, EndsEarly};
+ghost use Rattle.dh_work.specs.Brings.{IsTextAt, TellsFailure};
+ghost use Rattle.dh_session.specs.Inside.{asked_after, failures_told, overs_by, AsksOnce, IsNewsOf};
+ghost use Rattle.dh_session.specs.Works.{Asks, Delivers, Fails, FreesLate, EndsEarly};
 
 use dh_ports::{Desk, Gate, World};
 use dh_shared::{Counted, Rooted, Seat, SharedTable, Turn};
+use dh_syntax::Loc;
 use dh_table::{News, Taken, Ticket, Work};
 use dh_work::{fetch_text, look_up, work_item};
 use std::alloc::{AllocError, Global};
 use std::sync::Wait;
 
-/// What the task comes to. A fetch passes the gate first.
-#[tactic(auto, using(crate::proofs::Bringing::text_brings, crate::proofs::Bringing::look_brings, crate::proofs::Bringing::outcome_tells))]
+/// What a worker does after a turn.
+pub(crate) enum Next {
+    /// It claims again.
+    Claim,
+    /// It waits, and claims again.
+    Wait,
+    /// It ends: the run is over.
+    End,
+}
+
+/// Passes the gate and asks the desk for a text, once.
+#[tactic(auto, using(crate::proofs::Bringing::text_brings))]
+fn fetch_once<W: World, D: Desk<W>, G: Gate>(
+    alloc: Global,
+    desk: &mut D,
+    gate: &G,
+    loc: Loc,
+) -> Result<News, AllocError>
+    ensures brings { IfOk result (Brings W.told W.shelved) }
+    ensures own { IfOk result (λ news. IsTextAt loc news) }
+    ensures asked { D.asked desk.new ≡ one_more (D.asked desk.old) }
+    ensures filed { D.filed desk.new ≡ D.filed desk.old }
+    ensures counted { D.faults desk.old ≤ D.faults desk.new }
+    ensures failed { IfOk result (λ news. TellsFailure news (D.faults desk.old) (D.faults desk.new)) }
+{
+    gate.at_fetch(&loc);
+    fetch_text(alloc, desk, loc)
+}
+
+/// What the task comes to.
+#[tactic(auto, using(crate::proofs::Bringing::look_brings, crate::proofs::Bringing::outcome_tells))]
 fn bring<W: World, D: Desk<W>, G: Gate>(
     alloc: Global,
     desk: &mut D,
@@ -24,16 +55,14 @@ fn bring<W: World, D: Desk<W>, G: Gate>(
 ) -> Result<News, AllocError>
     requires { IsFitWork work }
     ensures brings { IfOk result (Brings W.told W.shelved) }
+    ensures own { IfOk result (λ news. IsNewsOf work news) }
     ensures asked { D.asked desk.new ≡ asked_after work (D.asked desk.old) }
     ensures filed { D.filed desk.new ≡ D.filed desk.old }
     ensures counted { D.faults desk.old ≤ D.faults desk.new }
     ensures failed { IfOk result (λ news. TellsFailure news (D.faults desk.old) (D.faults desk.new)) }
 {
     match work {
-        Work::Fetch(loc) => {
-            gate.at_fetch(&loc);
-            fetch_text(alloc, desk, loc)
-        }
+        Work::Fetch(loc) => fetch_once(alloc, desk, gate, loc),
         Work::Look(digest) => look_up(alloc, desk, digest),
         Work::Finish(item) => Ok(News::Finished(work_item(alloc, item)?)),
     }
@@ -50,6 +79,8 @@ fn hand_in<T: Wait, W: World, Q: Rooted, N: Counted>(
     requires { Brings W.told W.shelved news }
     ensures frees { OnOk result (FreesLate seat.old.shares seat.new.shares) }
     ensures early { OnErr result (EndsEarly seat.old.shares seat.new.shares) }
+    ensures delivers { OnOk result (seat.new.shares.kept + seat.new.shares.lates ≡ seat.old.shares.kept + seat.old.shares.lates + 1) }
+    ensures claims { seat.new.shares.claims ≡ seat.old.shares.claims }
     ensures fetches { seat.new.shares.fetches ≡ seat.old.shares.fetches }
     ensures overs { seat.new.shares.overs ≡ seat.old.shares.overs }
     ensures failed { seat.new.shares.failed ≤ seat.old.shares.failed + failures_told news }
@@ -86,6 +117,8 @@ fn carry_out<T: Wait, W: World, D: Desk<W>, G: Gate, Q: Rooted, N: Counted>(
     ensures filed { D.filed desk.new ≡ D.filed desk.old }
     ensures frees { OnOk result (FreesLate seat.old.shares seat.new.shares) }
     ensures early { OnErr result (EndsEarly seat.old.shares seat.new.shares) }
+    ensures delivers { OnOk result (seat.new.shares.kept + seat.new.shares.lates ≡ seat.old.shares.kept + seat.old.shares.lates + 1) }
+    ensures claims { seat.new.shares.claims ≡ seat.old.shares.claims }
     ensures fetches { seat.new.shares.fetches ≡ seat.old.shares.fetches }
     ensures overs { seat.new.shares.overs ≡ seat.old.shares.overs }
     ensures worker { seat.new.worker ≡ seat.old.worker }
@@ -99,10 +132,38 @@ fn carry_out<T: Wait, W: World, D: Desk<W>, G: Gate, Q: Rooted, N: Counted>(
     }
 }
 
+/// One turn: a claim, and the work on the task that it finds. Where memory is wanting the ticket of the task is given back.
+fn take_turn<T: Wait, W: World, D: Desk<W>, G: Gate, Q: Rooted, N: Counted>(
+    rt: &T,
+    alloc: Global,
+    shared: &SharedTable<W, Q, N>,
+    seat: &mut Seat<N>,
+    desk: &mut D,
+    gate: &G,
+) -> Result<Next, AllocError>
+    ensures overs { IfOk result (λ next. seat.new.shares.overs ≡ seat.old.shares.overs + overs_by next) }
+    ensures early { OnErr result (EndsEarly seat.old.shares seat.new.shares) }
+    ensures frees { OnOk result (FreesLate seat.old.shares seat.new.shares) }
+    ensures delivers { OnOk result (Delivers seat.old.shares seat.new.shares) }
+    ensures asks { OnOk result (AsksOnce (D.asked desk.old) (D.asked desk.new) seat.old.shares seat.new.shares) }
+    ensures fails { Fails (D.faults desk.old) (D.faults desk.new) seat.old.shares seat.new.shares }
+    ensures filed { D.filed desk.new ≡ D.filed desk.old }
+    ensures worker { seat.new.worker ≡ seat.old.worker }
+{
+    match shared.claim(rt, seat) {
+        Turn::Over => Ok(Next::End),
+        Turn::Memory => Err(AllocError),
+        Turn::Idle => Ok(Next::Wait),
+        Turn::Work(ticket, work) => {
+            carry_out(rt, alloc, shared, seat, desk, gate, ticket, work)?;
+            Ok(Next::Claim)
+        }
+    }
+}
+
 /// Claims tasks, passes the gate before each fetch, works on each task and delivers what it comes to, until a claim finds the root
 /// decided. Where memory is wanting it gives its ticket back and ends; after news that came late it gives its ticket back and goes
 /// on.
-#[tactic(auto, using(crate::proofs::Counting::asks_after, crate::proofs::Counting::fails_after))]
 pub fn worker<T: Wait, W: World, D: Desk<W>, G: Gate, Q: Rooted, N: Counted>(
     rt: &T,
     alloc: Global,
@@ -114,19 +175,17 @@ pub fn worker<T: Wait, W: World, D: Desk<W>, G: Gate, Q: Rooted, N: Counted>(
     ensures over { OnOk result (seat.new.shares.overs ≡ seat.old.shares.overs + 1) }
     ensures early { OnErr result (EndsEarly seat.old.shares seat.new.shares) }
     ensures frees { OnOk result (FreesLate seat.old.shares seat.new.shares) }
+    ensures delivers { OnOk result (Delivers seat.old.shares seat.new.shares) }
     ensures asks { OnOk result (Asks (D.asked desk.old) (D.asked desk.new) seat.old.shares seat.new.shares) }
     ensures fails { Fails (D.faults desk.old) (D.faults desk.new) seat.old.shares seat.new.shares }
     ensures filed { D.filed desk.new ≡ D.filed desk.old }
     ensures worker { seat.new.worker ≡ seat.old.worker }
 {
     for _ in rt.forever() {
-        match shared.claim(rt, seat) {
-            Turn::Over => return Ok(()),
-            Turn::Memory => return Err(AllocError),
-            Turn::Idle => shared.wait(rt, seat),
-            Turn::Work(ticket, work) => {
-                carry_out(rt, alloc, shared, seat, desk, gate, ticket, work)?;
-            }
+        match take_turn(rt, alloc, shared, seat, desk, gate)? {
+            Next::Claim => {}
+            Next::Wait => shared.wait(rt, seat),
+            Next::End => return Ok(()),
         }
     }
     unreachable!()

@@ -1,6 +1,6 @@
 //! The commands that resolve imports: from a text to the expression with a value for each import.
 
-ghost use Rattle.std.specs.Prelude.{◌≡◌, ◌≤◌, ◌<◌, ◌^◌, IsTrue, IfOk, OnOk, OnErr, Ok, List, length, map, vec_len};
+ghost use Rattle.std.specs.Prelude.{◌≡◌, ◌≤◌, ◌<◌, ◌^◌, IsTrue, IfOk, OnOk, OnErr, Ok, List, length, map, max, min, vec_len};
 ghost use Rattle.dh_syntax.specs.Command.Answer.{ResolvedAnswer, ValuedAnswer};
 ghost use Rattle.dh_syntax.specs.Command.Words.{resolves as resolves_imports};
 ghost use Rattle.dh_syntax.specs.Expressions.Arity.{IsWellFormed};
@@ -100,8 +100,7 @@ fn answered_reply<W: World, D: Desk<W>>(
 /// How many workers a run has that is asked for so many, with so many desks: at least one, and at most one for each desk.
 fn workers_for(wanted: u32, desks: usize) -> u32
     requires { 0 < desks }
-    ensures some { 0 < result }
-    ensures enough { result ≤ desks }
+    ensures { result ≡ max 1 (min wanted desks) }
 {
     if wanted == 0 {
         1
