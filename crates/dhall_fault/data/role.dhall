@@ -1,0 +1,1 @@
+{ name = "Ann", port = 80 }

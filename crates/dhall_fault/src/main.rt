@@ -1,0 +1,33 @@
+//! The `dhall` program once more, word for word, with a stored run that ends in a fault: a stored run has one input and one status,
+//! and that of `dhall` has an answer.
+#![tactic(auto)]
+
+use dh_desks::{Folders, make_desks};
+use dh_ports::{OpenGate, Silent};
+use dh_program::{Source, Target, exit_code, lack_memory, run_program};
+use dh_syntax::MOST_WORKERS;
+use std::env;
+use std::process::ExitCode;
+
+fn main(rt: HostRuntime) -> ExitCode {
+    let alloc = rt.alloc();
+    let mut input = Source::new(rt.stdin());
+    let mut out = Target::new(rt.stdout());
+    let mut err = Target::new(rt.stderr());
+    let Ok(folders) = Folders::read(&rt) else {
+        return exit_code(lack_memory(&mut out, &mut err));
+    };
+    let Ok(mut desks) = make_desks(rt, alloc, &folders, MOST_WORKERS as usize) else {
+        return exit_code(lack_memory(&mut out, &mut err));
+    };
+    run_program::<_, Silent, _, _, _, _, _>(
+        &rt,
+        alloc,
+        env::args(&rt),
+        &mut desks,
+        &OpenGate,
+        &mut input,
+        &mut out,
+        &mut err,
+    )
+}
