@@ -8,6 +8,8 @@ mod normal_forms;
 #[cfg(test)]
 mod plain_forms;
 #[cfg(test)]
+mod spliced_texts;
+#[cfg(test)]
 mod texts;
 #[cfg(test)]
 mod types;

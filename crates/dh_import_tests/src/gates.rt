@@ -8,8 +8,10 @@ use dh_session::{SessionFault, resolve_all};
 use dh_syntax::{Bytes, Digest, Loc};
 use dh_table::Ended;
 use std::alloc::{AllocError, Global};
+use std::sync::Wait;
 use std::sync::atomic::{AtomicU64, Ordering};
 use std::test::Fail;
+use std::thread::Threads;
 
 /// How often a fetch that is held looks up, so that the other worker comes to wait meanwhile.
 const TURNS: u32 = 10_000_000;
@@ -92,28 +94,48 @@ fn desks(alloc: Global, gate: &SlowGate, lacks: bool) -> Result<Vec<Guarded<'_>>
     Ok(desks)
 }
 
+/// How a run of two workers past the gate ends, in one word.
+fn ended_past<T: Threads + Wait + Sync>(
+    rt: &T,
+    alloc: Global,
+    desks: &mut Vec<Guarded<'_>>,
+    gate: &SlowGate,
+) -> Result<&'static str, AllocError> {
+    if desks.len() < 2 {
+        return Err(AllocError);
+    }
+    let root = imports(alloc, 1)?;
+    let answer = resolve_all::<_, Silent, _, _>(rt, alloc, desks, 2, root, gate);
+    Ok(match &answer {
+        Ok(answered) => match &answered.ended {
+            Ended::Ready(_) => "ready",
+            Ended::Bad(_) => "bad",
+        },
+        Err(SessionFault::TooMany) => "too many",
+        Err(SessionFault::Memory) => "memory",
+    })
+}
+
+/// How often the desks were asked, and how often before the gate was passed.
+fn counts(desks: &[Guarded<'_>]) -> (u64, u64) {
+    let (mut asked, mut unpassed) = (0_u64, 0_u64);
+    for desk in desks {
+        asked = asked.saturating_add(desk.asked);
+        unpassed = unpassed.saturating_add(desk.unpassed);
+    }
+    (asked, unpassed)
+}
+
 #[test]
 fn a_worker_that_waits_is_woken(rt: HostRuntime) -> Result<(), Fail> {
     let alloc = rt.alloc();
     // Where memory is wanting the first worker gives its ticket back, and the second one tries in its turn.
-    for (lacks, count) in [(false, 1_u64), (true, 2)] {
+    for (lacks, word, count) in [(false, "bad", 1_u64), (true, "memory", 2)] {
         let gate = SlowGate::new();
         let mut desks = desks(alloc, &gate, lacks)?;
-        if desks.len() < 2 {
-            return Err(Fail::from("no desks"));
-        }
-        let root = imports(alloc, 1)?;
-        let answer = resolve_all::<_, Silent, _, _>(&rt, alloc, &mut desks, 2, root, &gate);
-        match &answer {
-            Ok(answered) => assert!(rt; !lacks && matches!(&answered.ended, Ended::Bad(_))),
-            Err(fault) => assert!(rt; lacks && matches!(fault, SessionFault::Memory)),
-        }
-        let (mut asked, mut unpassed) = (0_u64, 0_u64);
-        for desk in &desks {
-            asked = asked.saturating_add(desk.asked);
-            unpassed = unpassed.saturating_add(desk.unpassed);
-        }
-        assert_eq!(rt; (asked, unpassed), (count, 0));
+        let end = ended_past(&rt, alloc, &mut desks, &gate)?;
+        assert_eq!(rt; end, word);
+        assert_eq!(rt; counts(desks.as_slice()), (count, 0));
     }
     Ok(())
 }

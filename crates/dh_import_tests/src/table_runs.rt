@@ -1,6 +1,6 @@
 //! Tests of whole runs by hand: a loop of two files beside a file that is not there, and too many keys.
 
-ghost use Rattle.std.specs.Prelude.{◌≡◌, ◌∷◌, [], Ok, Some, None, IfOk, codes};
+ghost use Rattle.std.specs.Prelude.{◌≡◌, ◌+◌, ◌≤◌, ◌∷◌, [], Ok, Some, None, IfOk, OnOk, codes, length};
 ghost use Rattle.dh_syntax.specs.declared.expressions.Op.TheVariants as ops;
 ghost use Rattle.dh_syntax.specs.declared.locations.Loc.TheVariants as locs;
 ghost use Rattle.dh_syntax.specs.declared.locations.Mode.TheVariants as modes;
@@ -11,7 +11,9 @@ ghost use Rattle.dh_table.specs.Brought.{BringsText, BringsOutcome};
 use crate::tables::{claimed, here, import, imports, is_kept, make_room, opened, task};
 use dh_ports::{Found, Got, Silent};
 use dh_syntax::{Blame, BoxedImport, Bytes, Expr, Import, Key, Loc, Many, Mode, Op, Outcome, Why};
-use dh_table::{Body, Claimed, Done, Ended, Item, News, Noted, OpenFault, Parsed, Step, Table};
+use dh_table::{
+    Body, Claimed, Done, Ended, Item, News, Noted, OpenFault, Parsed, Step, Table, Ticket,
+};
 use dh_terms::is_same_key;
 use std::alloc::{AllocError, Global};
 use std::test::Fail;
@@ -122,22 +124,41 @@ fn a_fetched(alloc: Global) -> Result<News, AllocError>
     })
 }
 
-/// Claims a fetch and delivers its text; whether it was kept.
-fn fetch(table: &mut Table<Silent>, news: News) -> Result<bool, AllocError>
-    requires { BringsText (λ _. None) news }
+/// Claims a task, and makes room for what is delivered on it.
+fn ready(table: &mut Table<Silent>) -> Result<Ticket, AllocError>
+    ensures { OnOk result (length table.new.flights + 1 ≤ table.new.spare) }
 {
     let ticket = task(table, 1)?;
     make_room(table)?;
+    Ok(ticket)
+}
+
+/// Claims a fetch and delivers that there is no such file; whether it was kept.
+fn fetch_absent(alloc: Global, table: &mut Table<Silent>, file: &str) -> Result<bool, AllocError> {
+    let ticket = ready(table)?;
+    let news = absent_fetched(alloc, file)?;
     Ok(is_kept(table.fetched(ticket, news)))
 }
 
-/// Claims a last step and delivers its outcome; whether it was kept.
-fn finish(table: &mut Table<Silent>, news: News) -> Result<bool, AllocError>
-    requires { BringsOutcome news }
-{
-    let ticket = task(table, 1)?;
-    make_room(table)?;
+/// Claims a last step and delivers that the file is not there; whether it was kept.
+fn finish_absent(alloc: Global, table: &mut Table<Silent>, file: &str) -> Result<bool, AllocError> {
+    let ticket = ready(table)?;
+    let news = absent_finished(alloc, file)?;
     Ok(is_kept(table.finished(ticket, news)))
+}
+
+/// Claims the fetch of a file and delivers the text `./b`; whether it was kept.
+fn fetch_b(alloc: Global, table: &mut Table<Silent>, file: &str) -> Result<bool, AllocError> {
+    let ticket = ready(table)?;
+    let news = b_fetched(alloc, file)?;
+    Ok(is_kept(table.fetched(ticket, news)))
+}
+
+/// Claims the fetch of `./b` and delivers the text `./a`; whether it was kept.
+fn fetch_a(alloc: Global, table: &mut Table<Silent>) -> Result<bool, AllocError> {
+    let ticket = ready(table)?;
+    let news = a_fetched(alloc)?;
+    Ok(is_kept(table.fetched(ticket, news)))
 }
 
 /// A list of the imports of `./a` and `./x`.
@@ -151,10 +172,10 @@ fn a_and_x(alloc: Global) -> Result<Expr, AllocError> {
 /// Delivers that `./x` is not there, which the table claims first, that `./a` is `./b`, and that `./b` is `./a`; whether all of it was
 /// kept.
 fn fetch_loop(alloc: Global, table: &mut Table<Silent>) -> Result<bool, AllocError> {
-    let absent = fetch(table, absent_fetched(alloc, "x")?)?;
-    let fault = finish(table, absent_finished(alloc, "x")?)?;
-    let first = fetch(table, b_fetched(alloc, "a")?)?;
-    let second = fetch(table, a_fetched(alloc)?)?;
+    let absent = fetch_absent(alloc, table, "x")?;
+    let fault = finish_absent(alloc, table, "x")?;
+    let first = fetch_b(alloc, table, "a")?;
+    let second = fetch_a(alloc, table)?;
     Ok(absent && fault && first && second)
 }
 
@@ -190,12 +211,18 @@ fn is_too_many(ended: &Ended) -> bool {
     }
 }
 
+/// Whether the root ends at a loop of which the key of this file is the least one.
+fn ends_at(alloc: Global, table: &Table<Silent>, file: &str) -> Result<bool, AllocError> {
+    let key = key(alloc, file)?;
+    let end = ended(alloc, table)?;
+    Ok(is_loop_at(&end, &key))
+}
+
 /// Runs to the end of the loop; whether each step answered as it should, and the root ends at the loop.
 fn meets_loop(alloc: Global, table: &mut Table<Silent>) -> Result<bool, AllocError> {
     let kept = fetch_loop(alloc, table)?;
     let over = matches!(claimed(table, 2)?, Claimed::Over);
-    let end = ended(alloc, table)?;
-    let looped = is_loop_at(&end, &key(alloc, "a")?);
+    let looped = ends_at(alloc, table, "a")?;
     Ok(kept && over && looped)
 }
 
@@ -207,7 +234,7 @@ fn is_refused(alloc: Global, count: usize) -> Result<bool, AllocError> {
 
 /// Whether one more key is too many for the root, whose last import the table claims first.
 fn overflows(alloc: Global, table: &mut Table<Silent>) -> Result<bool, AllocError> {
-    let kept = fetch(table, b_fetched(alloc, "4095")?)?;
+    let kept = fetch_b(alloc, table, "4095")?;
     let over = matches!(claimed(table, 2)?, Claimed::Over);
     Ok(kept && over && is_too_many(&ended(alloc, table)?))
 }

@@ -168,8 +168,8 @@ fn fetch_one(
     table: &mut Table<Silent>,
     ticket: Ticket,
 ) -> Result<Taken, AllocError> {
-    let news = one_fetched(alloc)?;
     make_room(table)?;
+    let news = one_fetched(alloc)?;
     Ok(table.fetched(ticket, news))
 }
 
@@ -179,8 +179,8 @@ fn finish_one(
     table: &mut Table<Silent>,
     ticket: Ticket,
 ) -> Result<Taken, AllocError> {
-    let news = one_finished(alloc)?;
     make_room(table)?;
+    let news = one_finished(alloc)?;
     Ok(table.finished(ticket, news))
 }
 

@@ -105,15 +105,30 @@ fn is_too_wide(done: &Done) -> bool {
     done.is_limit() && matches!(why(done), Some(Why::Norm(NormFault::Wide)))
 }
 
+/// Whether the value of code is the one that a text spells.
+fn code_gives(alloc: Global, code: &str, value: &str) -> Result<bool, AllocError> {
+    let done = code_done(alloc, code)?;
+    is_value(alloc, &done, value)
+}
+
+/// Whether code is refused at the part of this number by the rule of this number.
+fn code_is_ill(alloc: Global, code: &str, part: u32, rule: u8) -> Result<bool, AllocError> {
+    let done = code_done(alloc, code)?;
+    Ok(is_ill_at(&done, part, rule))
+}
+
+/// Whether the value of code has a number that is too wide.
+fn code_is_too_wide(alloc: Global, code: &str) -> Result<bool, AllocError> {
+    let done = code_done(alloc, code)?;
+    Ok(is_too_wide(&done))
+}
+
 #[test]
 fn code_is_typed_and_normalised(rt: HostRuntime) -> Result<(), Fail> {
     let alloc = rt.alloc();
-    let value = code_done(alloc, "1 + 1")?;
-    assert!(rt; is_value(alloc, &value, "2")?);
-    let ill = code_done(alloc, "[ 1 + True ]")?;
-    assert!(rt; is_ill_at(&ill, 0, 14));
-    let wide = code_done(alloc, "340282366920938463463374607431768211455 + 1")?;
-    assert!(rt; is_too_wide(&wide));
+    assert!(rt; code_gives(alloc, "1 + 1", "2")?);
+    assert!(rt; code_is_ill(alloc, "[ 1 + True ]", 0, 14)?);
+    assert!(rt; code_is_too_wide(alloc, "340282366920938463463374607431768211455 + 1")?);
     Ok(())
 }
 
@@ -125,15 +140,26 @@ fn is_no_text(done: &Done, fault: ParseFault) -> bool {
     }
 }
 
+/// Whether the value of a text is the one that this spells.
+fn text_gives(alloc: Global, bytes: &[u8], value: &str) -> Result<bool, AllocError> {
+    let done = text_done(alloc, bytes.to_vec(alloc)?)?;
+    is_value(alloc, &done, value)
+}
+
+/// Whether these bytes are no text, for this fault.
+fn text_fails(alloc: Global, bytes: Vec<u8>, fault: ParseFault) -> Result<bool, AllocError> {
+    let done = text_done(alloc, bytes)?;
+    Ok(is_no_text(&done, fault))
+}
+
 #[test]
 fn a_text_is_short_and_utf8(rt: HostRuntime) -> Result<(), Fail> {
     let alloc = rt.alloc();
-    let text = text_done(alloc, b"a$b".to_vec(alloc)?)?;
-    assert!(rt; is_value(alloc, &text, r#""a$b""#)?);
-    let no_text = text_done(alloc, b"ab\xff".to_vec(alloc)?)?;
-    assert!(rt; is_no_text(&no_text, ParseFault::NotUtf8(2)));
-    let too_large = text_done(alloc, Vec::from_elem(alloc, 0xff, 1_048_577)?)?;
-    assert!(rt; is_no_text(&too_large, ParseFault::TooLarge));
+    assert!(rt; text_gives(alloc, b"a$b", r#""a$b""#)?);
+    let bytes = b"ab\xff".to_vec(alloc)?;
+    assert!(rt; text_fails(alloc, bytes, ParseFault::NotUtf8(2))?);
+    let bytes = Vec::from_elem(alloc, 0xff, 1_048_577)?;
+    assert!(rt; text_fails(alloc, bytes, ParseFault::TooLarge)?);
     Ok(())
 }
 
@@ -187,27 +213,47 @@ fn differs(done: &Done, from: Digest) -> bool {
     }
 }
 
-#[test]
-fn a_value_is_compared_with_its_digest(rt: HostRuntime) -> Result<(), Fail> {
-    let alloc = rt.alloc();
+/// Whether the value `1` stays where it is compared with its own digest.
+fn own_digest_stays(alloc: Global) -> Result<bool, AllocError> {
     let same = compared(alloc, OF_ONE)?;
-    assert!(rt; is_value(alloc, &same, "1")?);
-    let other = compared(alloc, Digest([7; 32]))?;
-    assert!(rt; differs(&other, Digest([7; 32])));
-    Ok(())
+    is_value(alloc, &same, "1")
+}
+
+/// Whether the value `1` differs from this digest, and the fault tells both.
+fn digest_differs(alloc: Global, digest: Digest) -> Result<bool, AllocError> {
+    let other = compared(alloc, digest)?;
+    Ok(differs(&other, digest))
 }
 
 #[test]
-fn entries_and_faults_stay(rt: HostRuntime) -> Result<(), Fail> {
+fn a_value_is_compared_with_its_digest(rt: HostRuntime) -> Result<(), Fail> {
     let alloc = rt.alloc();
+    assert!(rt; own_digest_stays(alloc)?);
+    assert!(rt; digest_differs(alloc, Digest([7; 32]))?);
+    Ok(())
+}
+
+/// Whether the value of an entry is that of its key.
+fn entry_stays(alloc: Global) -> Result<bool, AllocError> {
     let entry = done(alloc, Body::Entry(one(alloc)), Some(OF_ONE))?;
-    assert!(rt; is_value(alloc, &entry, "1")?);
+    is_value(alloc, &entry, "1")
+}
+
+/// Whether the fault of an item is that of its key.
+fn fault_stays(alloc: Global) -> Result<bool, AllocError> {
     let blame = Blame {
         at: Some(key(None)),
         why: Why::Cycle,
     };
     let fault = done(alloc, Body::Fault(blame), None)?;
-    assert!(rt; matches!(why(&fault), Some(Why::Cycle)));
+    Ok(matches!(why(&fault), Some(Why::Cycle)))
+}
+
+#[test]
+fn entries_and_faults_stay(rt: HostRuntime) -> Result<(), Fail> {
+    let alloc = rt.alloc();
+    assert!(rt; entry_stays(alloc)?);
+    assert!(rt; fault_stays(alloc)?);
     Ok(())
 }
 
@@ -279,10 +325,14 @@ fn fetched<D: Desk<Silent>>(
 fn a_text_is_fetched_and_parsed(rt: HostRuntime) -> Result<(), Fail> {
     let alloc = rt.alloc();
     let mut desk = desk(alloc, &ONE)?;
-    assert_eq!(rt; fetched(alloc, &mut desk, "good")?, "one import");
-    assert_eq!(rt; fetched(alloc, &mut desk, "bad")?, "bad");
-    assert_eq!(rt; fetched(alloc, &mut desk, "good")?, "failed");
-    assert_eq!(rt; fetched(alloc, &mut desk, "other")?, "nothing");
+    for (name, wanted) in [
+        ("good", "one import"),
+        ("bad", "bad"),
+        ("good", "failed"),
+        ("other", "nothing"),
+    ] {
+        assert_eq!(rt; fetched(alloc, &mut desk, name)?, wanted);
+    }
     Ok(())
 }
 
