@@ -111,6 +111,11 @@ def text_in_front(n):
     return f'List/fold Text {names(n)} Text (\\(x : Text) -> \\(rest : Text) -> x ++ ", " ++ rest) ""'
 
 
+def text_around(n):
+    """A text that grows in front and keeps a variable at each step."""
+    return f'\\(v : Text) -> List/fold Text {names(n)} Text (\\(x : Text) -> \\(rest : Text) -> "${{v}}${{x}}${{rest}}") ""'
+
+
 def text_behind(n):
     return f'List/fold Text {names(n)} Text (\\(x : Text) -> \\(done : Text) -> done ++ ", " ++ x) ""'
 
@@ -178,6 +183,22 @@ def doubled_types(n):
     for i in range(1, n):
         text += f"let t{i} = {{ a : t{i - 1}, b : t{i - 1} }}\n"
     return text + f"in \\(x : t{n - 1}) -> (x : t{n - 1}).a"
+
+
+def somes(n):
+    """Lets, each of which is `Some` of the one before."""
+    text = "let x0 = 1\n"
+    for i in range(1, n + 1):
+        text += f"let x{i} = Some x{i - 1}\n"
+    return text + f"in x{n}"
+
+
+def deep_typed(n):
+    """A list of n values below `Some`, whose type is a function type that nests 480 deep."""
+    nested = "Natural"
+    for _ in range(480):
+        nested = f"({nested} -> Natural)"
+    return f"\\(f : {nested}) -> [ " + ", ".join(["Some f"] * n) + " ]"
 
 
 # ---- graphs of imports: the text of the root, and each file's name and text in turn, so that this script itself stays small
@@ -297,6 +318,7 @@ NORMAL = [
     ("texts joined around a variable", joined_texts, [120, 240, 480]),
     ("text that grows in front", text_in_front, [12500, 25000, 50000]),
     ("text that grows behind", text_behind, [12500, 25000, 50000]),
+    ("text that grows around a variable", text_around, [5000, 10000, 20000]),
     ("lists joined", joined_lists, [5000, 10000, 20000]),
     ("map", mapped, [2500, 5000, 10000]),
     ("filter", filtered, [2500, 5000, 10000]),
@@ -313,6 +335,8 @@ TYPED = [
     ("library of n functions", library, [500, 1000, 2000]),
     ("record", record, [2500, 5000, 10000]),
     ("types that share their parts", doubled_types, [5, 10, 15]),
+    ("lets of nested Some", somes, [100, 200, 400]),
+    ("list of n values of a deep type", deep_typed, [250, 500, 1000]),
 ]
 
 GRAPHS = [
