@@ -72,7 +72,6 @@ impl Got {
 
 /// A desk over lists in memory, some of whose calls may be set to fail. What it keeps goes into a list of its own, which no
 /// look reads. It tells nothing of the outside: its own clauses say what it answers.
-#[derive(Drop)]
 pub struct MemDesk {
     alloc: Global,
     contents: Contents,
@@ -84,6 +83,23 @@ pub struct MemDesk {
     asked: u64,
     failed: u64,
     ghost short: { All (λ c. IsShort c.got) contents },
+}
+
+// Written by hand: a derived one puts the drop of each field inline wherever one may die.
+impl Drop for MemDesk {
+    fn drop(self) {
+        let MemDesk {
+            alloc: _,
+            contents: _,
+            cache: _,
+            kept: _,
+            fetches: _,
+            looks: _,
+            keeps: _,
+            asked: _,
+            failed: _,
+        } = self;
+    }
 }
 
 /// Whether no more bytes are found than one more than a text may have.
