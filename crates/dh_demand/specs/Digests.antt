@@ -1,5 +1,5 @@
 -- The digests of values, by the numbers of their keys.
-use Rattle.std.specs.Prelude.{ℕ, List, map, Option, Some, None}
+use Rattle.std.specs.Prelude.{ℕ, List, map, All, Option, Some, None, IsSome, IfSome}
 use Rattle.dh_syntax.specs.declared.locations.Digest.{Digest}
 use Rattle.dh_syntax.specs.declared.outcomes.Outcome as program
 use Rattle.dh_syntax.specs.declared.outcomes.Outcome.TheVariants as variants
@@ -24,3 +24,11 @@ digest_at rows None = None
 
 abbrev pub digests_at : List Row → List (Option ℕ) → List (Option Digest)
 digests_at rows ns = map (digest_at rows) ns
+
+-- the key of this number has a value
+abbrev pub HasValue : List Row → ℕ → Type 0
+HasValue rows n = IsSome (digest_at rows (Some n))
+
+-- each of these numbers is that of a key with a value
+abbrev pub HaveValues : List Row → List (Option ℕ) → Type 0
+HaveValues rows ns = All (λ (n : Option ℕ). IfSome n (HasValue rows)) ns

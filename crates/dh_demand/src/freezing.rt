@@ -1,14 +1,14 @@
 //! The values whose digests are written behind the imports of a text when it is frozen.
 
-ghost use Rattle.std.specs.Prelude.{◌≡◌, ◌≤◌, ◌<◌, ◌&&◌, ◌++◌, ◌∷◌, [], List, Bool, true, false, Some, None, length, drop, replicate, is_none, IfOk, OnOk};
+ghost use Rattle.std.specs.Prelude.{◌≡◌, ◌≤◌, ◌<◌, ◌&&◌, ◌++◌, ◌∷◌, [], List, Bool, true, false, Some, None, length, drop, replicate, is_none, IfOk, IfSome, OnOk};
 ghost use Rattle.dh_syntax.specs.declared.locations.Import.{Import};
 ghost use Rattle.dh_syntax.specs.declared.locations.Key.{Key};
 ghost use Rattle.dh_syntax.specs.Expressions.Bridge.{term, row_of};
 ghost use Rattle.dh_syntax.specs.Imports.Freezing.{digest_behind, digests_behind, digests_behind_row, goes_on, takes_content};
 ghost use Rattle.dh_syntax.specs.Imports.Keys.{chained};
 ghost use Rattle.dh_syntax.specs.Imports.Walk.{Walked, choosing, other, in_order, walk, walk_key, walks, keys_of, keys_of_row};
-ghost use Rattle.dh_demand.specs.Digests.{digest_at, digests_at};
-ghost use Rattle.dh_demand.specs.Results.{ask_of};
+ghost use Rattle.dh_demand.specs.Digests.{digest_at, digests_at, HasValue, HaveValues};
+ghost use Rattle.dh_demand.specs.Results.{Row, ask_of};
 ghost use Rattle.dh_demand.specs.Scans.{Begins, AreInside, Fits, IsEdge, imports, imports_of_parts};
 ghost use Rattle.dh_demand.specs.Nexts.{IsNext, IsInside};
 ghost use Rattle.dh_demand.specs.Inside.Here.{is_ready};
@@ -32,7 +32,8 @@ pub fn keys_behind<R: Results>(
     results: &R,
 ) -> Result<Vec<Option<u32>>, AllocError>
     requires { Fits None (R.rows results.now) (term scan.now.expr) scan.now.edges }
-    ensures { IfOk result (λ ks. digests_at (R.rows results.now) ks.items ≡ digests_behind (ask_of (R.rows results.now)) true (term scan.now.expr)) }
+    ensures digests { IfOk result (λ ks. digests_at (R.rows results.now) ks.items ≡ digests_behind (ask_of (R.rows results.now)) true (term scan.now.expr)) }
+    ensures valued { IfOk result (λ ks. HaveValues (R.rows results.now) ks.items) }
 {
     let mut keys = Vec::new(alloc);
     let edges = scan.edges.as_slice();
@@ -53,6 +54,7 @@ fn push_keys<'a, R: Results>(
     requires before_inside { IsInside (R.rows results.now) before }
     ensures keys { OnOk result (Begins None (R.rows results.now) (keys_of None (term e.now)) edges.now →
         digests_at (R.rows results.now) keys.new.items ≡ digests_at (R.rows results.now) keys.old.items ++ digests_behind (ask_of (R.rows results.now)) (is_ready before) (term e.now)) }
+    ensures valued { OnOk result (HaveValues (R.rows results.now) keys.old.items → HaveValues (R.rows results.now) keys.new.items) }
     ensures next { IfOk result (λ r. Begins None (R.rows results.now) (keys_of None (term e.now)) edges.now →
         (w : Walked (Unit {0})) → IsNext None (R.rows results.now) w before → IsNext None (R.rows results.now) (after w (walk None (ask_of (R.rows results.now)) (term e.now))) r.0) }
     ensures inside { IfOk result (λ r. IsInside (R.rows results.now) r.0) }
@@ -99,6 +101,7 @@ fn push_parts<'a, R: Results>(
     requires { AreInside (R.rows results.now) edges.now }
     ensures keys { OnOk result (Begins None (R.rows results.now) (keys_of_row None (row_of kids.now)) edges.now →
         digests_at (R.rows results.now) keys.new.items ≡ digests_at (R.rows results.now) keys.old.items ++ digests_behind_row (ask_of (R.rows results.now)) other true (row_of kids.now)) }
+    ensures valued { OnOk result (HaveValues (R.rows results.now) keys.old.items → HaveValues (R.rows results.now) keys.new.items) }
     ensures next { IfOk result (λ r. Begins None (R.rows results.now) (keys_of_row None (row_of kids.now)) edges.now →
         IsNext None (R.rows results.now) (in_order (walks None (ask_of (R.rows results.now)) (row_of kids.now))) r.0) }
     ensures inside { IfOk result (λ r. IsInside (R.rows results.now) r.0) }
@@ -126,6 +129,7 @@ fn push_sides<'a, R: Results>(
     requires two { length kids.now ≡ 2 }
     ensures keys { OnOk result (Begins None (R.rows results.now) (keys_of_row None (row_of kids.now)) edges.now →
         digests_at (R.rows results.now) keys.new.items ≡ digests_at (R.rows results.now) keys.old.items ++ digests_behind_row (ask_of (R.rows results.now)) choosing true (row_of kids.now)) }
+    ensures valued { OnOk result (HaveValues (R.rows results.now) keys.old.items → HaveValues (R.rows results.now) keys.new.items) }
     ensures next { IfOk result (λ r. Begins None (R.rows results.now) (keys_of_row None (row_of kids.now)) edges.now →
         IsNext None (R.rows results.now) (choice (walks None (ask_of (R.rows results.now)) (row_of kids.now))) r.0) }
     ensures inside { IfOk result (λ r. IsInside (R.rows results.now) r.0) }
@@ -153,8 +157,9 @@ fn push_odd_sides<R: Results>(
     results: &R,
 ) -> Result<(), AllocError>
     requires { AreInside (R.rows results.now) edges.now }
-    ensures { OnOk result (Begins None (R.rows results.now) (keys_of_row None (row_of kids.now)) edges.now →
+    ensures keys { OnOk result (Begins None (R.rows results.now) (keys_of_row None (row_of kids.now)) edges.now →
         digests_at (R.rows results.now) keys.new.items ≡ digests_at (R.rows results.now) keys.old.items ++ digests_behind_row (ask_of (R.rows results.now)) choosing true (row_of kids.now)) }
+    ensures valued { OnOk result (HaveValues (R.rows results.now) keys.old.items → HaveValues (R.rows results.now) keys.new.items) }
 {
     let mut here = true;
     let mut rest = edges;
@@ -178,6 +183,7 @@ fn push_side<'a, R: Results>(
     requires { AreInside (R.rows results.now) edges.now }
     ensures keys { OnOk result (Begins None (R.rows results.now) (keys_of None (term e.now)) edges.now →
         digests_at (R.rows results.now) keys.new.items ≡ digests_at (R.rows results.now) keys.old.items ++ digests_behind (ask_of (R.rows results.now)) here (term e.now)) }
+    ensures valued { OnOk result (HaveValues (R.rows results.now) keys.old.items → HaveValues (R.rows results.now) keys.new.items) }
     ensures goes { IfOk result (λ r. Begins None (R.rows results.now) (keys_of None (term e.now)) edges.now →
         r.0 ≡ (here && goes_on choosing (walk None (ask_of (R.rows results.now)) (term e.now)))) }
     ensures rest { IfOk result (λ r. r.1.now ≡ drop (imports (term e.now)) edges.now) }
@@ -200,6 +206,7 @@ fn push_import<'a, R: Results>(
     requires { AreInside (R.rows results.now) edges.now }
     ensures keys { OnOk result ((i : Import) (ks : List Key) → Begins None (R.rows results.now) (chained None i ∷ ks) edges.now →
         digests_at (R.rows results.now) keys.new.items ≡ digests_at (R.rows results.now) keys.old.items ++ digest_behind i (walk_key None (ask_of (R.rows results.now)) (chained None i)) ∷ []) }
+    ensures valued { OnOk result (HaveValues (R.rows results.now) keys.old.items → HaveValues (R.rows results.now) keys.new.items) }
     ensures next { IfOk result (λ r. (k : Key) (ks : List Key) → Begins None (R.rows results.now) (k ∷ ks) edges.now →
         IsNext None (R.rows results.now) (walk_key None (ask_of (R.rows results.now)) k) r.0) }
     ensures inside { IfOk result (λ r. IsInside (R.rows results.now) r.0) }
@@ -219,8 +226,9 @@ fn push_import<'a, R: Results>(
 // The number of the key whose digest is written behind an import with this edge, to which this comes.
 fn key_behind<R: Results>(edge: Edge, next: &Next, results: &R) -> Option<u32>
     requires { edge.key < length (R.rows results.now) }
-    ensures { (i : Import) → IsEdge None (R.rows results.now) (chained None i) edge → IsNext None (R.rows results.now) (walk_key None (ask_of (R.rows results.now)) (chained None i)) next.now →
+    ensures digest { (i : Import) → IsEdge None (R.rows results.now) (chained None i) edge → IsNext None (R.rows results.now) (walk_key None (ask_of (R.rows results.now)) (chained None i)) next.now →
         digest_at (R.rows results.now) result ≡ digest_behind i (walk_key None (ask_of (R.rows results.now)) (chained None i)) }
+    ensures valued { (next.now ≡ Next.Ready → HasValue (R.rows results.now) edge.key) → IfSome result (HasValue (R.rows results.now)) }
 {
     if !next.is_ready() {
         return None;
@@ -249,6 +257,7 @@ fn pass_over<'a>(
     edges: &'a [Edge],
 ) -> Result<&'a [Edge], AllocError>
     ensures keys { OnOk result (imports (term e.now) ≤ length edges.now → keys.new.items ≡ keys.old.items ++ replicate (imports (term e.now)) None) }
+    ensures valued { (rows : List Row) → OnOk result (HaveValues rows keys.old.items → HaveValues rows keys.new.items) }
     ensures rest { IfOk result (λ r. r.now ≡ drop (imports (term e.now)) edges.now) }
 {
     let rest = skip(e, edges);

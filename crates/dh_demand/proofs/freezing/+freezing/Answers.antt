@@ -63,7 +63,7 @@ pub push_keys-returns-in_ok-push_odd_sides-in-Choice-clause-keys : goal.push_key
 push_keys-returns-in_ok-push_odd_sides-in-Choice-clause-keys g t c b =
     let ready : c.args.before ≡ next.Ready = search rules in
     choice_behind _ c.args.e.now c.in-Node.op c.in-Node.kids c.args.before _ _ c.in-Node.is c.in-Choice.ensures ready
-    (c.in_ok-push_odd_sides-in-Choice.ensures (as_begins None _ _ _ _ (choice_keys None c.args.e.now c.in-Node.op c.in-Node.kids c.in-Node.is c.in-Choice.ensures) b))
+    (c.in_ok-push_odd_sides-in-Choice.ensures.keys (as_begins None _ _ _ _ (choice_keys None c.args.e.now c.in-Node.op c.in-Node.kids c.in-Node.is c.in-Choice.ensures) b))
 
 pub push_keys-returns-in_ok-push_odd_sides-in-Choice-clause-next : goal.push_keys-returns-in_ok-push_odd_sides-in-Choice-clause-next
 push_keys-returns-in_ok-push_odd_sides-in-Choice-clause-next g t c b w h =
@@ -99,6 +99,7 @@ push_parts-loop-kid-init g t c = record {
   next_inside = tt;
   so_far = λ b. so_far-start None _ c.as_slice-kid-items.result.now _ b;
   keys = λ b. refl;
+  valued = λ h. h;
 }
 
 pub push_parts-loop-kid-preserved : goal.push_parts-loop-kid-preserved
@@ -116,6 +117,7 @@ push_parts-loop-kid-preserved g t c = record {
       λ b.
       next_part _ c.as_slice-kid-items.result.now c.loop-kid.kid-index c.kid-item.result _ _ _ _ _ _ c.loop-kid-test.true c.kid-item.is (c.loop-kid.invariant.so_far b)
       c.in_ok-after.ensures.next c.in_ok-after.ensures.keys (c.loop-kid.invariant.keys b);
+  valued = λ h. c.in_ok-after.ensures.valued (c.loop-kid.invariant.valued h);
 }
 
 pub push_parts-returns-clause-keys : goal.push_parts-returns-clause-keys
@@ -208,10 +210,11 @@ push_odd_sides-loop-kid-preserved g t c = record {
       let at = begins_at_item None _ c.as_slice-kid-items.result.now c.loop-kid.kid-index c.kid-item.result _ c.loop-kid-test.true c.kid-item.is (c.loop-kid.invariant.begins b) in
       next_row _ choosing _ _ c.as_slice-kid-items.result.now c.loop-kid.kid-index c.kid-item.result _ _ _ c.loop-kid-test.true c.kid-item.is (c.in_ok-goes.ensures.goes at)
       (c.in_ok-goes.ensures.keys at) (c.loop-kid.invariant.keys b);
+  valued = λ h. c.in_ok-goes.ensures.valued (c.loop-kid.invariant.valued h);
 }
 
-pub push_odd_sides-returns : goal.push_odd_sides-returns
-push_odd_sides-returns g t c b =
+pub push_odd_sides-returns-clause-keys : goal.push_odd_sides-returns-clause-keys
+push_odd_sides-returns-clause-keys g t c b =
     let rows = g.R.Results.rows c.args.results.now in
     whole_row rows choosing _ c.as_slice-kid-items.result.now c.loop-kid.kid-index _ _ c.loop-kid-test.false
     (c.loop-kid.invariant.keys (as_begins None rows _ _ _ (ap (λ ks. keys_of_row None (row_of ks)) (sym c.as_slice-kid-items.ensures)) b))

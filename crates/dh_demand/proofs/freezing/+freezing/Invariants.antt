@@ -3,7 +3,7 @@ use Rattle.std.specs.Prelude.{None}
 use Rattle.dh_syntax.specs.Expressions.Bridge.{row_of}
 use Rattle.dh_syntax.specs.Imports.Freezing.{digests_behind_row}
 use Rattle.dh_syntax.specs.Imports.Walk.{choosing, other, keys_of_row}
-use Rattle.dh_demand.specs.Digests.{digests_at}
+use Rattle.dh_demand.specs.Digests.{digests_at, HaveValues}
 use Rattle.dh_demand.specs.Inside.Here.{is_ready}
 use Rattle.dh_demand.specs.Nexts.{IsInside}
 use Rattle.dh_demand.specs.Results.{ask_of}
@@ -20,6 +20,7 @@ invariant-push_parts-loop-kid g l = record {
   keys : Begins None (g.R.Results.rows l.results) (keys_of_row None (row_of l.kid-items)) l.edges
       → digests_at (g.R.Results.rows l.results) l.keys.items ++ digests_behind_row (ask_of (g.R.Results.rows l.results)) other (is_ready l.next) (row_of (drop l.kid-index l.kid-items))
       ≡ digests_at (g.R.Results.rows l.results) l.fn.keys.items ++ digests_behind_row (ask_of (g.R.Results.rows l.results)) other true (row_of l.kid-items);
+  valued : HaveValues (g.R.Results.rows l.results) l.fn.keys.items → HaveValues (g.R.Results.rows l.results) l.keys.items;
 }
 
 abbrev pub invariant-push_odd_sides-loop-kid : goal.invariant-push_odd_sides-loop-kid
@@ -29,4 +30,5 @@ invariant-push_odd_sides-loop-kid g l = record {
   keys : Begins None (g.R.Results.rows l.results) (keys_of_row None (row_of l.kid-items)) l.edges
       → digests_at (g.R.Results.rows l.results) l.keys.items ++ digests_behind_row (ask_of (g.R.Results.rows l.results)) choosing l.here (row_of (drop l.kid-index l.kid-items))
       ≡ digests_at (g.R.Results.rows l.results) l.fn.keys.items ++ digests_behind_row (ask_of (g.R.Results.rows l.results)) choosing true (row_of l.kid-items);
+  valued : HaveValues (g.R.Results.rows l.results) l.fn.keys.items → HaveValues (g.R.Results.rows l.results) l.keys.items;
 }

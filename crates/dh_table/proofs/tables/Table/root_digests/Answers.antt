@@ -18,6 +18,6 @@ returns g c =
     sym (along (λ v. outcome_of (state_of v) ≡ ask_of (rows_of v.keys)) c.self.view_is c.self.invariant.asks) in
     ok_with c.digests_of.result
     (λ ds h.
-    h ∙ ap (λ (v : Shown). digests_at (rows_of v.keys) c.as_slice.result.now) c.self.view_is ∙ ap (digests_at (rows_of here.keys)) c.as_slice.ensures.value ∙ c.in_ok-keys.ensures
+    h ∙ ap (λ (v : Shown). digests_at (rows_of v.keys) c.as_slice.result.now) c.self.view_is ∙ ap (digests_at (rows_of here.keys)) c.as_slice.ensures.value ∙ c.in_ok-keys.ensures.digests
     ∙ ap (λ (ask : Ask). digests_behind ask true (term t.root.expr)) asks ∙ ap (λ v. digests_behind (outcome_of (state_of here)) true (state_of v).root) c.self.view_is)
     c.digests_of.ensures
