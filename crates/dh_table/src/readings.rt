@@ -8,7 +8,7 @@ ghost use Rattle.dh_syntax.specs.Imports.Machine.{outcome_of};
 ghost use Rattle.dh_syntax.specs.Imports.Records.{Found, text_at};
 ghost use Rattle.dh_syntax.specs.Imports.TextPaths.{text_path};
 ghost use Rattle.dh_demand.specs.Scans.{text_key};
-ghost use Rattle.dh_table.specs.Finds.{bytes_found};
+ghost use Rattle.dh_table.specs.Finds.{bytes_found, path_found};
 ghost use Rattle.dh_table.specs.States.{record_of, state_of};
 
 use crate::digests::digests_of;
@@ -53,16 +53,22 @@ impl<W: World> Table<W> {
     /// The path in the text at a location of the node to which a path leads in the text with its values. It is empty where no text
     /// that spells an expression was found there.
     pub fn path_at(&self, alloc: Global, loc: &Loc, path: &[u32]) -> Result<Vec<u32>, AllocError>
-        ensures { IfOk result (λ p. (bytes : List ℕ) (allow : Option (List ℕ)) (e : Term) → text_at (record_of self.now) loc.now ≡ Some (Found bytes allow (Ok e))
+        ensures exact { IfOk result (λ p. p.items ≡ path_found (λ e. text_path (text_key (Some loc.now)) (outcome_of (state_of self.now)) e path.now) (text_at (record_of self.now) loc.now)) }
+        ensures found { IfOk result (λ p. (bytes : List ℕ) (allow : Option (List ℕ)) (e : Term) → text_at (record_of self.now) loc.now ≡ Some (Found bytes allow (Ok e))
             → p.items ≡ text_path (text_key (Some loc.now)) (outcome_of (state_of self.now)) e path.now) }
     {
         let texts = Texts::of(self.texts.as_slice(), &self.text_order);
         let Some(text) = text_at(&texts, loc) else {
             return Ok(Vec::new(alloc));
         };
-        match &text.read {
-            Some(Ok(scan)) => text_path(alloc, scan, Some(loc), self, path),
-            Some(Err(_)) | None => Ok(Vec::new(alloc)),
+        match (&text.got, &text.read) {
+            (Noted::Got(Got::Found(_found)), Some(Ok(scan))) => {
+                text_path(alloc, scan, Some(loc), self, path)
+            }
+            (Noted::Got(Got::Found(_)), Some(Err(_)) | None) => Ok(Vec::new(alloc)),
+            (Noted::Got(Got::Absent) | Noted::Got(Got::Broken(_)) | Noted::Failed, _) => {
+                Ok(Vec::new(alloc))
+            }
         }
     }
 }

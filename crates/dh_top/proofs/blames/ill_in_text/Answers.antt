@@ -17,4 +17,4 @@ returns g c =
     let here = stands_found c.args.table.now c.args.blame.now c.args.ill.now c.in-Some.key c.in-Some.is s in
     let text_is : c.in-Some-bytes_at.text.now ≡ s.text = some-equal (c.in-Some-bytes_at.ensures.found s.text s.reading.allow s.spelled here) in
     told_in_text c.ill_reply.result c.args.table.now c.args.blame.now c.args.ill.now c.in-Some.key _ c.in-Some-bytes_at.text.now c.as_slice-2.result.now c.as_slice.result.now
-    c.is_replayed.ensures c.requires.told s c.in-Some.is refl text_is c.as_slice.ensures (λ bytes allow e h. c.as_slice-2.ensures.value ∙ c.in_ok-path.ensures bytes allow e h) c.ill_reply.ensures
+    c.is_replayed.ensures c.requires.told s c.in-Some.is refl text_is c.as_slice.ensures (λ bytes allow e h. c.as_slice-2.ensures.value ∙ c.in_ok-path.ensures.found bytes allow e h) c.ill_reply.ensures
