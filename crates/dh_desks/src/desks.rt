@@ -1,7 +1,7 @@
 //! The desk over the system.
 
 ghost use Rattle.std.specs.Prelude.{◌≡◌, ◌≢◌, ◌≤◌, length, None, Err, IfOk, IfErr, IfSome, OnOk, OnErr, vec_len, IsErr};
-ghost use Rattle.dh_syntax.specs.Limits.{most_entry_bytes};
+ghost use Rattle.dh_syntax.specs.Limits.{most_entry_bytes, most_workers};
 ghost use Rattle.dh_ports.specs.Counts.{Rose};
 ghost use Rattle.dh_ports.specs.Desks.{IsShort};
 ghost use Rattle.dh_desks.specs.Answers.{AnswersOnly, DecidedBy};
@@ -12,7 +12,7 @@ use crate::folders::{Folder, Folders};
 use crate::places::{Place, entry_file, place_of};
 use crate::reading::{file_text, variable_text};
 use dh_ports::{Desk, DeskError, Got, Silent};
-use dh_syntax::{Bytes, Digest, Loc};
+use dh_syntax::{Bytes, Digest, Loc, MOST_WORKERS};
 use std::alloc::{AllocError, Global};
 use std::env::Env;
 use std::rt::Files;
@@ -29,7 +29,7 @@ pub struct SystemDesk<'a, R> {
 
 impl<'a, R> SystemDesk<'a, R> {
     /// A desk that was asked for nothing yet.
-    pub fn new(rt: R, alloc: Global, folders: &'a Folders) -> SystemDesk<'a, R>
+    pub(crate) fn new(rt: R, alloc: Global, folders: &'a Folders) -> SystemDesk<'a, R>
         ensures asked { result.asked ≡ 0 }
         ensures failed { result.failed ≡ 0 }
     {
@@ -70,7 +70,7 @@ impl<'a, R> SystemDesk<'a, R> {
 }
 
 /// So many desks over one system.
-pub fn make_desks<'a, R: Copy>(
+pub(crate) fn some_desks<'a, R: Copy>(
     rt: R,
     alloc: Global,
     folders: &'a Folders,
@@ -83,6 +83,17 @@ pub fn make_desks<'a, R: Copy>(
         desks.push(SystemDesk::new(rt, alloc, folders))?;
     }
     Ok(desks)
+}
+
+/// Desks over one system: one for each worker that a run may have.
+pub fn make_desks<'a, R: Copy>(
+    rt: R,
+    alloc: Global,
+    folders: &'a Folders,
+) -> Result<Vec<SystemDesk<'a, R>>, AllocError>
+    ensures { IfOk result (λ desks. vec_len desks ≡ most_workers) }
+{
+    some_desks(rt, alloc, folders, MOST_WORKERS as usize)
 }
 
 /// What is found at a location.

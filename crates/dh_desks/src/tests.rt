@@ -3,9 +3,10 @@
 mod full_disk;
 mod outside;
 
+use crate::desks::some_desks;
 use crate::entries::{read_entry, write_entry};
 use crate::reading::variable_text;
-use crate::{Folder, Folders, SystemDesk, make_desks};
+use crate::{Folder, Folders, SystemDesk};
 use dh_ports::{Desk, DeskError, Silent};
 use dh_syntax::{Digest, Loc, MOST_BYTES, MOST_ENTRY_BYTES, Piece, Url};
 use full_disk::FullDisk;
@@ -392,7 +393,7 @@ fn keep_often<D: Desk<Silent>>(desk: &mut D, alloc: Global, wrong: &AtomicU64) {
 fn desks_keep_side_by_side(rt: HostRuntime) -> Result<(), Fail> {
     let folder = new_folder(&rt, "beside")?;
     let folders = cache_in(&rt, folder.as_str())?;
-    let mut desks = make_desks(rt, rt.alloc(), &folders, 8)?;
+    let mut desks = some_desks(rt, rt.alloc(), &folders, 8)?;
     let wrong = AtomicU64::new(0);
     thread::for_each_mut(
         &rt,

@@ -5,7 +5,6 @@
 use dh_desks::{Folders, make_desks};
 use dh_ports::{OpenGate, Silent};
 use dh_program::{Source, Target, exit_code, lack_memory, run_program};
-use dh_syntax::MOST_WORKERS;
 use std::env;
 use std::process::ExitCode;
 
@@ -17,7 +16,7 @@ fn main(rt: HostRuntime) -> ExitCode {
     let Ok(folders) = Folders::read(&rt) else {
         return exit_code(lack_memory(&mut out, &mut err));
     };
-    let Ok(mut desks) = make_desks(rt, alloc, &folders, MOST_WORKERS as usize) else {
+    let Ok(mut desks) = make_desks(rt, alloc, &folders) else {
         return exit_code(lack_memory(&mut out, &mut err));
     };
     run_program::<_, Silent, _, _, _, _, _>(
