@@ -1,7 +1,9 @@
 -- From each place to the whole run.
-use Rattle.std.proofs.Common.{◌≡◌, ℕ, zero, suc, ◌+◌, ◌<◌, ◌≤◌, ◌⊎◌, inl, inr, Bool, true, List, [], ◌∷◌, ◌++◌, map, length, get_or, refl, sym, ap, ◌∙◌, subst, arith, rules}
+use Rattle.std.proofs.Common.{◌≡◌, ℕ, zero, suc, ◌+◌, ◌<◌, ◌≤◌, ◌⊎◌, inl, inr, Bool, true, List, [], ◌∷◌, ◌++◌, map, length, drop, get_or, refl, sym, ap, ◌∙◌, subst, arith, rules}
 use Rattle.std.specs.Prelude.{Option, sum_by, count_by, Any, All}
+use Rattle.std.proofs.Math.Seq.{drop-append_seam}
 use Rattle.std.proofs.lemmas.Grind.{common_steps}
+use Rattle.std.proofs.lemmas.List.{length-map}
 use Rattle.std.proofs.lemmas.List.Sums.{sum_by-append, sum_by-cons}
 use Rattle.std.proofs.lemmas.List.Elements.{All-get_or}
 use Rattle.dh_syntax.specs.declared.locations.Digest.{Digest}
@@ -70,6 +72,15 @@ pub stays : {P D A : Type 0} (f : D → A) (desk : P → D) (xs ys : List P) (le
     → map desk xs ++ left ≡ before → after ≡ map desk ys ++ left → length ys ≡ length xs
     → ((i : ℕ) (d : P) → i < length xs → f (desk (get_or ys i d)) ≡ f (desk (get_or xs i d))) → map f after ≡ map f before
 stays f desk xs ys left before after was is len each = ap (λ ds. map f ds) is ∙ stays_beside f desk left xs ys len each ∙ ap (λ ds. map f ds) was
+
+-- what stands behind the places stays
+behind : {P D : Type 0} (desk : P → D) (xs : List P) (left : List D) (n : ℕ) → length xs ≡ n → drop n (map desk xs ++ left) ≡ left
+behind desk xs left n len = ap (λ k. drop k (map desk xs ++ left)) (sym len ∙ sym (length-map xs desk)) ∙ drop-append_seam (map desk xs) left
+
+pub stays_behind : {P D : Type 0} (desk : P → D) (xs ys : List P) (left before after : List D) (n : ℕ) → map desk xs ++ left ≡ before → after ≡ map desk ys ++ left
+    → length xs ≡ n → length ys ≡ n → drop n after ≡ drop n before
+stays_behind desk xs ys left before after n was is len len' =
+    ap (drop n) is ∙ behind desk ys left n len' ∙ sym (behind desk xs left n len) ∙ ap (drop n) was
 
 -- no count fell of those that stay, nor of those of which none fell
 none_fell_itself : (ns : List ℕ) → NoneFell ns ns

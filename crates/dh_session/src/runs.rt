@@ -1,6 +1,6 @@
 //! One run: workers over one table, in threads, until the root is decided.
 
-ghost use Rattle.std.specs.Prelude.{◌≡◌, ℕ, ◌≤◌, ◌<◌, [], true, false, length, map, IfOk, IfErr, IfSome, vec_len, slice_index_or};
+ghost use Rattle.std.specs.Prelude.{◌≡◌, ℕ, ◌≤◌, ◌<◌, [], true, false, drop, length, map, IfOk, IfErr, IfSome, vec_len, slice_index_or};
 ghost use Rattle.dh_syntax.specs.Expressions.Bridge.{term};
 ghost use Rattle.dh_syntax.specs.Imports.Machine.{opening};
 ghost use Rattle.dh_syntax.specs.Imports.Replay.{has_too_many, root_end};
@@ -113,6 +113,7 @@ fn run<
     requires blanks { blanks ≡ N.ledgers }
     requires parts { N.ledgers.parts ≡ workers }
     ensures count { vec_len desks.new ≡ vec_len desks.old }
+    ensures idle { drop workers desks.new.items ≡ drop workers desks.old.items }
     ensures filed { map (λ d. D.filed d) desks.new.items ≡ map (λ d. D.filed d) desks.old.items }
     ensures root { IfOk result (λ t. t.root.expr ≡ Q.root) }
     ensures counted { IfOk result (λ t. NoneFell (map (λ d. D.faults d) desks.old.items) (map (λ d. D.faults d) desks.new.items)) }
@@ -130,8 +131,8 @@ fn run<
 }
 
 /// Resolves the imports of a root ("Import resolution") with one worker on each of the first desks, and tells how the root ends, what
-/// the run keeps in the cache, and the table. Whatever it answers, all desks stand in `desks` again in their order. Before each
-/// fetch a worker passes the gate.
+/// the run keeps in the cache, and the table. Whatever it answers, all desks stand in `desks` again in their order, and those that
+/// have no worker are as they were. Before each fetch a worker passes the gate.
 ///
 /// `TooMany` comes exactly where the root has more than 4,096 keys; keys that become too many later are the fault of the root.
 pub fn resolve_all<
@@ -150,6 +151,7 @@ pub fn resolve_all<
     requires some { 0 < workers }
     requires enough { workers ≤ vec_len desks.old }
     ensures count { vec_len desks.new ≡ vec_len desks.old }
+    ensures idle { drop workers desks.new.items ≡ drop workers desks.old.items }
     ensures filed { map (λ d. D.filed d) desks.new.items ≡ map (λ d. D.filed d) desks.old.items }
     ensures root { IfOk result (λ a. (state_of a.table).root ≡ term root) }
     ensures counted { IfOk result (λ a. NoneFell (map (λ d. D.faults d) desks.old.items) (map (λ d. D.faults d) desks.new.items)) }
