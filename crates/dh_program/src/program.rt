@@ -6,8 +6,8 @@ ghost use Rattle.std.specs.Process.{exit_status};
 ghost use Rattle.std.specs.Vec.Iter.{into_iter_items};
 ghost use Rattle.dh_syntax.specs.Command.Answer.{without_memory};
 ghost use Rattle.dh_syntax.specs.Command.Statuses.{code_of};
-ghost use Rattle.dh_syntax.specs.Command.Words.{Word};
-ghost use Rattle.dh_top.specs.Outside.{Outside, outside};
+ghost use Rattle.dh_syntax.specs.Command.Words.{Word, command_of};
+ghost use Rattle.dh_top.specs.Outside.{Outside, outside, desks_for, UsesFirst};
 ghost use Rattle.dh_top.specs.Runs.{Input, Runs, Delivers, reading, output};
 ghost use Rattle.dh_program.specs.Ends.{Ends, EndsWithoutMemory, words_told};
 
@@ -80,6 +80,8 @@ fn run_words<
     err: &mut E,
 ) -> Status
     requires { 0 < vec_len desks.old }
+    ensures count { vec_len desks.new ≡ vec_len desks.old }
+    ensures desks { (told : List Word) → IfOk words (λ ws. map string_bytes ws.items ≡ told) → UsesFirst (λ d. D.filed d) (desks_for (command_of told) (vec_len desks.old)) desks.old.items desks.new.items }
     ensures runs { (told : List Word) → IfOk words (λ ws. map string_bytes ws.items ≡ told) → Runs told
         (reading (I.left input.old) (I.left input.new) (I.faults input.old) (I.faults input.new))
         (outside W.told W.shelved (λ d. D.faults d) (λ d. D.filed d) desks.old.items desks.new.items)
@@ -125,6 +127,8 @@ pub fn run_program<
     err: &mut E,
 ) -> ExitCode
     requires { 0 < vec_len desks.old }
+    ensures count { vec_len desks.new ≡ vec_len desks.old }
+    ensures desks { UsesFirst (λ d. D.filed d) (desks_for (command_of (words_told string_bytes args)) (vec_len desks.old)) desks.old.items desks.new.items }
     ensures ends { Ends (words_told string_bytes args)
         (reading (I.left input.old) (I.left input.new) (I.faults input.old) (I.faults input.new))
         (outside W.told W.shelved (λ d. D.faults d) (λ d. D.filed d) desks.old.items desks.new.items)

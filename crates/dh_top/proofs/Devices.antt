@@ -141,7 +141,7 @@ rose before after n some (inl h) = inl h
 rose before after n some (inr h) = inr (omega (arith, some, h))
 
 pub desk_failed : (v : Verb) (text : List ℕ) (o : Outside) (r : Record) → Finds v text o r → 0 < failures r → DeskFailed o
-desk_failed v text o r (finds root e pairs t p f by k files) some = rose o.faults_before o.faults_after (failures r) some f.faults
+desk_failed v text o r (finds root e pairs t p f by k files own) some = rose o.faults_before o.faults_after (failures r) some f.faults
 desk_failed v text o r (leaves none filed quiet) some = absurd (let z : failures r ≡ 0 = ap failures none in omega (arith, z, some))
 
 pub told_device : (w : Response) (o : Outside) (out err : Output) (s : Status) → (w.status ≡ status.Desk → DeskFailed o) → Delivers w out err s → s ≡ status.Desk → DeskFailed o

@@ -73,7 +73,7 @@ longer_none : {P : Type 0} (n : ℕ) (text : List ℕ) (e : Term) → n ≡ 1048
 longer_none n text e m h p = absurd (let s = p.is_text.0 in let l = read_length n text m h in omega (arith, s, l))
 
 longer_finds : (v : Verb) (n : ℕ) (text : List ℕ) (o : Outside) (r : Record) → n ≡ 1048577 → n ≤ length text → Finds v (take n text) o r → Finds v text o r
-longer_finds v n text o r m h (finds root e pairs t p f by k files) = longer_none n text root m h p
+longer_finds v n text o r m h (finds root e pairs t p f by k files own) = longer_none n text root m h p
 longer_finds v n text o r m h (leaves none filed quiet) = leaves none filed quiet
 
 longer_part : (v : Verb) (n : ℕ) (text : List ℕ) (o : Outside) → n ≡ 1048577 → n ≤ length text → FilesPart v (take n text) o → FilesPart v text o

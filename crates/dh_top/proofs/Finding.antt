@@ -95,7 +95,7 @@ rise_total none_left = omega arith
 rise_total (more_left {m = m} {n = n} {ms = ms} {ns = ns} h r) =
     let t = rise_total r in omega (arith, h, t, sum_by-cons (λ n. n) m ms, sum_by-cons (λ n. n) n ns)
 
-rise_last : {ms ns : List ℕ} → NoneFell ms ns → Any AtLast ms → Any AtLast ns
+pub rise_last : {ms ns : List ℕ} → NoneFell ms ns → Any AtLast ms → Any AtLast ns
 rise_last none_left h = h
 rise_last (more_left {n = n} up r) (zero, x, lt, is, p) = (0, n, omega arith, refl, omega (arith, up, is, p))
 rise_last (more_left {n = n} up r) (suc i, x, lt, is, p) =
@@ -105,7 +105,7 @@ fails_on : (n : ℕ) (b m a : List ℕ) → NoneFell m a → Any AtLast m ⊎ (n
 fails_on n b m a r (inl h) = inl (rise_last r h)
 fails_on n b m a r (inr h) = inr (let t = rise_total r in omega (arith, h, t))
 
-mapped : {D : Type 0} (faults : D → ℕ) (n : ℕ) (before mid : List D) → Any (λ d. AtLast (faults d)) mid ⊎ (n + sum_by faults before ≤ sum_by faults mid)
+pub mapped : {D : Type 0} (faults : D → ℕ) (n : ℕ) (before mid : List D) → Any (λ d. AtLast (faults d)) mid ⊎ (n + sum_by faults before ≤ sum_by faults mid)
     → Any AtLast (map faults mid) ⊎ (n + total (map faults before) ≤ total (map faults mid))
 mapped faults n before mid (inl h) = inl (last_map faults mid h)
 mapped faults n before mid (inr h) = inr (let b = total_map faults before in let m = total_map faults mid in omega (arith, h, b, m))

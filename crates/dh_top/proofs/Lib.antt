@@ -11,4 +11,5 @@ pub mod Reading
 pub mod Resolutions
 pub mod RunLaws
 pub mod TypedReplies
+pub mod Using
 pub mod Writing

@@ -1,7 +1,8 @@
 -- Replies of the commands that resolve imports.
 use Rattle.std.proofs.Common.{◌≡◌, ◌⊎◌, inl, inr, ℕ, ◌+◌, ◌≤◌, ◌<◌, List, [], ◌∷◌, ◌++◌, map, length, Option, Some, None, Result, Ok, Err, IfOk, IfSome, Bool, true, false, true≢false, refl, sym, ap, ◌∙◌, subst, arith}
-use Rattle.std.specs.Prelude.{IsTrue, OnOk, OnErr, option_map}
+use Rattle.std.specs.Prelude.{IsTrue, OnOk, OnErr, Any, option_map, sum_by}
 use Rattle.std.specs.declared.alloc.AllocError.{AllocError}
+use Rattle.std.proofs.lemmas.List.Sums.{sum_by-cons}
 use Rattle.dh_syntax.specs.declared.faults.Ill.{Ill}
 use Rattle.dh_syntax.specs.declared.faults.ParseFault.{ParseFault}
 use Rattle.dh_syntax.specs.declared.faults.TypeFault.{TypeFault}
@@ -43,12 +44,12 @@ use Rattle.dh_table.specs.States.{IsReplayed, record_of, state_of}
 use Rattle.dh_session.specs.Ended.{FailsAll, NoneFell, none_left, more_left}
 use Rattle.dh_session.specs.Works.{AtLast}
 use Rattle.dh_top.specs.declared.replies.Reply.{Reply}
-use Rattle.dh_top.specs.Outside.{Outside, Pair, outside, first_of, AtFirst, at_first, FilesAll, FilesSome, Finds, finds, leaves, FilesPart, files_none, files_some, IsFound, KeepsBy, failures, nothing_found}
+use Rattle.dh_top.specs.Outside.{Outside, Pair, outside, first_of, AtFirst, at_first, FilesAll, FilesSome, Finds, finds, leaves, FilesPart, files_none, files_some, IsFound, KeepsBy, failures, nothing_found, total}
 use Rattle.dh_top.specs.Replies.{written, Answers, IsClosed, TellsPlace}
 use Rattle.dh_top.proofs.Closing.{WalkedTo, walked}
 use Rattle.dh_top.proofs.Devices.{failed_found, other_statuses, resolved_device}
 use Rattle.dh_top.proofs.RunLaws.{one_root_end}
-use Rattle.dh_top.proofs.Finding.{none_fell_itself, found_by}
+use Rattle.dh_top.proofs.Finding.{none_fell_itself, rise_last, mapped, found_by}
 use Rattle.dh_top.proofs.TypedReplies.{line_told}
 
 -- ---- a fault that decides
@@ -163,6 +164,21 @@ all_at_first faults filed pairs before mid after fell same (at_first {d = d} {d'
   few = more_before (first_of 0 (map faults before)) (faults d) (faults e) (length h.1.kept) (length pairs) (first_fell _ _ fell) h.1.few;
 }
 
+-- the failures that were found and the entries that were left out, as faults
+own_faults : (n p k f g : ℕ) (before rest : List ℕ) → f ≤ g → Any AtLast (f ∷ rest) ⊎ (n + total before ≤ total (f ∷ rest)) → AtLast g ⊎ (p + f ≤ k + g)
+    → Any AtLast (g ∷ rest) ⊎ (n + p + total before ≤ k + total (g ∷ rest))
+own_faults n p k f g before rest up (inl last) few = inl (rise_last (more_left up (none_fell_itself rest)) last)
+own_faults n p k f g before rest up (inr sums) (inl last) = inl (0, g, omega arith, refl, last)
+own_faults n p k f g before rest up (inr sums) (inr few) = inr (omega (arith, sums, few, sum_by-cons (λ n. n) f rest, sum_by-cons (λ n. n) g rest))
+
+all_faults : {D : Type 0} (faults : D → ℕ) (filed : D → Option (List Pair)) (n : ℕ) (pairs : List Pair) (before mid after : List D) (fell : NoneFell (map faults before) (map faults mid))
+    (same : map filed mid ≡ map filed before) (k : Keeping faults (λ d e. FilesAll (faults d) (faults e) (filed d) (filed e) pairs) mid after)
+    → Any (λ d. AtLast (faults d)) mid ⊎ (n + sum_by faults before ≤ sum_by faults mid)
+    → Any AtLast (map faults after) ⊎ (n + length pairs + total (map faults before) ≤ length (all_at_first faults filed pairs before mid after fell same k).kept + total (map faults after))
+unfolding all_at_first
+all_faults faults filed n pairs before mid after fell same (at_first {d = d} {d' = e} {ds = ds} h) sums =
+    own_faults n (length pairs) (length h.1.kept) (faults d) (faults e) (map faults before) (map faults ds) h.0 (mapped faults n before (d ∷ ds) sums) h.1.few
+
 part_at_first : {D : Type 0} (faults : D → ℕ) (filed : D → Option (List Pair)) (pairs : List Pair) (before mid after : List D)
     → map filed mid ≡ map filed before → Keeping faults (λ d e. (kept : List Pair) × FilesSome (filed d) (filed e) pairs kept) mid after
     → (kept : List Pair) × FilesSome (first_of None (map filed before)) (first_of None (map filed after)) pairs kept
@@ -205,7 +221,8 @@ module _ (told : Loc → Option Got) (shelved : Digest → Option (Option (List 
       → ResolvedAnswer v text (state_of t).root (record_of t) w → Answers v text (outside told shelved faults filed before after) w
   answered_one w k a = record {
     found = record_of t;
-    finds = finds root s.closed.end pairs takes spelled (found_here k) by_root kept_by (all_at_first faults filed pairs before mid after s.fell s.filed_is k);
+    finds = finds root s.closed.end pairs takes spelled (found_here k) by_root kept_by (all_at_first faults filed pairs before mid after s.fell s.filed_is k)
+        (all_faults faults filed (failures (record_of t)) pairs before mid after s.fell s.filed_is k s.fails);
     does = spells root takes spelled (subst (λ r. ResolvedAnswer v text r (record_of t) w) s.root_is a);
     devices = λ d. resolved_device v text (state_of t).root (record_of t) w a d (λ b by failed. failure_found b by failed);
   }

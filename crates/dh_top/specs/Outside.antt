@@ -1,5 +1,5 @@
 -- What the desks of a run show, and what the run found and kept by them.
-use Rattle.std.specs.Prelude.{◌≡◌, ◌⊎◌, ℕ, ◌+◌, ◌≤◌, false, List, [], ◌∷◌, ◌++◌, map, length, sum_by, count_by, Any, Option, Some, None, option_map, IfSome, Ok, ⊤}
+use Rattle.std.specs.Prelude.{◌≡◌, ◌⊎◌, ℕ, ◌+◌, ◌≤◌, max, min, false, if◌then◌else◌, List, [], ◌∷◌, ◌++◌, map, drop, length, sum_by, count_by, Any, Option, Some, None, option_map, IfSome, Ok, Err, ⊤}
 use Rattle.std.specs.Prelude.{IsTrue, Result}
 use Rattle.dh_syntax.specs.declared.commands.Command.{Command}
 use Rattle.dh_syntax.specs.declared.faults.ParseFault.{ParseFault}
@@ -56,6 +56,22 @@ outside told shelved faults filed before after = record {
   filed_before = first_of None (map filed before);
   filed_after = first_of None (map filed after);
 }
+
+-- ---- which desks are used
+
+-- how many of so many desks a command may use: one for each worker that it asks for, and none where it resolves nothing
+abbrev pub desks_of : Command → ℕ → ℕ
+desks_of c desks = if does_resolve c.verb then max 1 (min c.workers desks) else 0
+
+-- words that are no command line use none
+abbrev pub desks_for : Result Command ℕ → ℕ → ℕ
+desks_for (Ok c) desks = desks_of c desks
+desks_for (Err k) desks = 0
+
+-- Only so many first desks were used: those behind them are as they were. And none but the first has kept anything.
+pub record UsesFirst {D : Type 0} (filed : D → Option (List Pair)) (n : ℕ) (before after : List D) : Type 0 where
+  pub idle : drop n after ≡ drop n before
+  pub others : drop 1 (map filed after) ≡ drop 1 (map filed before)
 
 -- ---- what was found
 
@@ -138,6 +154,10 @@ pub record FilesAll (faults faults' : ℕ) (filed filed' : Option (List Pair)) (
   pub files : FilesSome filed filed' pairs kept
   pub few : AtLast faults' ⊎ (length pairs + faults ≤ length kept + faults')
 
+-- each text and each look that failed, and each entry that was left out, is a fault of its own, unless a count stands at its last value
+abbrev pub AreFaults : Outside → Record → List Pair → List Pair → Type 0
+AreFaults o r pairs kept = Any AtLast o.faults_after ⊎ (failures r + length pairs + total o.faults_before ≤ length kept + total o.faults_after)
+
 -- the first of these is followed by another, the others are as they were
 pub data AtFirst {D : Type 0} (P : D → D → Type 0) : List D → List D → Type 0 where
   at_first : {d d' : D} {ds : List D} → P d d' → AtFirst P (d ∷ ds) (d' ∷ ds)
@@ -147,7 +167,7 @@ pub data AtFirst {D : Type 0} (P : D → D → Type 0) : List D → List D → T
 -- How the record of a command on a text comes about. Where nothing is resolved, it is empty, and nothing is kept.
 pub data Finds (v : Verb) (text : List ℕ) (o : Outside) (r : Record) : Type 0 where
   finds : (root : Term) (end : RootEnd) (pairs : List Pair) → IsTrue (does_resolve v) → ParsesTo text (Ok root) → IsFound o r → EndsBy r root end → KeepsBy r root end pairs
-      → FilesAll (first_of 0 o.faults_before) (first_of 0 o.faults_after) o.filed_before o.filed_after pairs → Finds v text o r
+      → (files : FilesAll (first_of 0 o.faults_before) (first_of 0 o.faults_after) o.filed_before o.filed_after pairs) → AreFaults o r pairs files.kept → Finds v text o r
   leaves : r ≡ nothing_found → o.filed_after ≡ o.filed_before → (does_resolve v ≡ false → o.faults_after ≡ o.faults_before) → Finds v text o r
 
 -- what the first desk has kept where memory is wanting: nothing, or some of what the run keeps

@@ -2,7 +2,8 @@
 
 ghost use Rattle.std.specs.Prelude.{◌≡◌, ◌<◌, [], IfOk, OnErr, map, string_bytes, vec_len};
 ghost use Rattle.dh_syntax.specs.Command.Answer.{misused, unread, answer as answer_of, misspelt};
-ghost use Rattle.dh_top.specs.Outside.{outside, FilesPart};
+ghost use Rattle.dh_syntax.specs.Command.Words.{command_of};
+ghost use Rattle.dh_top.specs.Outside.{outside, desks_for, desks_of, FilesPart, UsesFirst};
 ghost use Rattle.dh_top.specs.Replies.{written, Answers, IsMade, Lacks, Performs};
 ghost use Rattle.dh_top.specs.Runs.{LacksMemory, reading};
 
@@ -90,6 +91,7 @@ fn answer<
 ) -> Result<Reply, AllocError>
     requires some { 0 < vec_len desks.old }
     ensures count { vec_len desks.new ≡ vec_len desks.old }
+    ensures desks { UsesFirst (λ d. D.filed d) (desks_of command (vec_len desks.old)) desks.old.items desks.new.items }
     ensures answers { IfOk result (λ w. Answers command.verb input.now (outside W.told W.shelved (λ d. D.faults d) (λ d. D.filed d) desks.old.items desks.new.items) (written w)) }
     ensures lacks { OnErr result (FilesPart command.verb input.now (outside W.told W.shelved (λ d. D.faults d) (λ d. D.filed d) desks.old.items desks.new.items)) }
 {
@@ -121,6 +123,7 @@ fn perform<
 ) -> Result<Reply, AllocError>
     requires some { 0 < vec_len desks.old }
     ensures count { vec_len desks.new ≡ vec_len desks.old }
+    ensures desks { UsesFirst (λ d. D.filed d) (desks_of command (vec_len desks.old)) desks.old.items desks.new.items }
     ensures performs { IfOk result (λ w. Performs command
         (reading (I.left input.old) (I.left input.new) (I.faults input.old) (I.faults input.new))
         (outside W.told W.shelved (λ d. D.faults d) (λ d. D.filed d) desks.old.items desks.new.items) (written w)) }
@@ -155,6 +158,7 @@ pub(crate) fn reply_to<
 ) -> Result<Reply, AllocError>
     requires some { 0 < vec_len desks.old }
     ensures count { vec_len desks.new ≡ vec_len desks.old }
+    ensures desks { UsesFirst (λ d. D.filed d) (desks_for (command_of (map string_bytes words.now)) (vec_len desks.old)) desks.old.items desks.new.items }
     ensures made { IfOk result (λ w. IsMade (map string_bytes words.now)
         (reading (I.left input.old) (I.left input.new) (I.faults input.old) (I.faults input.new))
         (outside W.told W.shelved (λ d. D.faults d) (λ d. D.filed d) desks.old.items desks.new.items) (written w)) }

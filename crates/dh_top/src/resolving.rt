@@ -14,7 +14,7 @@ ghost use Rattle.dh_syntax.specs.Names.Indices.{IndicesBelow};
 ghost use Rattle.dh_syntax.specs.Text.Spelling.{ParsesTo};
 ghost use Rattle.dh_table.specs.Kept.{IsKeeping, pair_of};
 ghost use Rattle.dh_table.specs.States.{record_of, state_of};
-ghost use Rattle.dh_top.specs.Outside.{outside, AtFirst, FilesAll, FilesPart, FilesSome, Pair};
+ghost use Rattle.dh_top.specs.Outside.{outside, desks_of, AtFirst, FilesAll, FilesPart, FilesSome, Pair, UsesFirst};
 ghost use Rattle.dh_top.specs.Replies.{written, Answers, IsClosed};
 
 use crate::blames::blame_reply;
@@ -131,6 +131,7 @@ fn spelled_reply<
     requires spelled { ParsesTo text.now (Ok (term e)) }
     requires spellable { IsSpellable (term e) }
     ensures count { vec_len desks.new ≡ vec_len desks.old }
+    ensures desks { UsesFirst (λ d. D.filed d) (desks_of command (vec_len desks.old)) desks.old.items desks.new.items }
     ensures answers { IfOk result (λ w. Answers command.verb text.now (outside W.told W.shelved (λ d. D.faults d) (λ d. D.filed d) desks.old.items desks.new.items) (written w)) }
     ensures lacks { OnErr result (FilesPart command.verb text.now (outside W.told W.shelved (λ d. D.faults d) (λ d. D.filed d) desks.old.items desks.new.items)) }
 {
@@ -163,6 +164,7 @@ pub(crate) fn resolving<
     requires some { 0 < vec_len desks.old }
     requires resolves { IsTrue (resolves_imports command.verb) }
     ensures count { vec_len desks.new ≡ vec_len desks.old }
+    ensures desks { UsesFirst (λ d. D.filed d) (desks_of command (vec_len desks.old)) desks.old.items desks.new.items }
     ensures answers { IfOk result (λ w. Answers command.verb text.now (outside W.told W.shelved (λ d. D.faults d) (λ d. D.filed d) desks.old.items desks.new.items) (written w)) }
     ensures lacks { OnErr result (FilesPart command.verb text.now (outside W.told W.shelved (λ d. D.faults d) (λ d. D.filed d) desks.old.items desks.new.items)) }
 {

@@ -2,7 +2,8 @@
 
 ghost use Rattle.std.specs.Prelude.{◌≡◌, ◌<◌, ◌⊎◌, map, string_bytes, vec_len};
 ghost use Rattle.dh_ports.specs.Counts.{Rose};
-ghost use Rattle.dh_top.specs.Outside.{outside};
+ghost use Rattle.dh_syntax.specs.Command.Words.{command_of};
+ghost use Rattle.dh_top.specs.Outside.{outside, desks_for, UsesFirst};
 ghost use Rattle.dh_top.specs.Runs.{Runs, AreMisused, DeskFailed, ReadFailed, reading, output};
 
 use crate::delivery::deliver;
@@ -43,6 +44,11 @@ pub fn run_dhall<
         (outside W.told W.shelved (λ d. D.faults d) (λ d. D.filed d) desks.old.items desks.new.items)
         (output (O.written out.old) (O.written out.new) (O.faults out.old) (O.faults out.new))
         (output (E.written err.old) (E.written err.new) (E.faults err.old) (E.faults err.new)) result }
+
+    // There are as many desks as before. Only those are used whose workers the words ask for, and none where no imports are resolved;
+    // and only the first one keeps anything.
+    ensures count { vec_len desks.new ≡ vec_len desks.old }
+    ensures desks { UsesFirst (λ d. D.filed d) (desks_for (command_of (map string_bytes words.now)) (vec_len desks.old)) desks.old.items desks.new.items }
 
     // Words that are no command line are the one cause of `Usage`, and are answered so unless the line cannot be
     // written or memory is wanting.

@@ -6,3 +6,6 @@ run_dhall-requires-clause-some g c = λ κs within. c.requires
 
 pub returns-in-Err-clause-runs : goal.returns-in-Err-clause-runs
 returns-in-Err-clause-runs g c = λ told is. c.lack_memory.ensures.runs _ _ _ refl
+
+pub returns-in-Err-clause-desks : goal.returns-in-Err-clause-desks
+returns-in-Err-clause-desks g c = λ told is. record { idle = refl; others = refl }

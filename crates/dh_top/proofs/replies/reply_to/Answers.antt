@@ -1,5 +1,6 @@
-use Rattle.std.proofs.Common.{refl}
+use Rattle.std.proofs.Common.{refl, map, string_bytes}
 use Rattle.dh_top.proofs.Encodings.{made_by_words, made_misused, lacks_by_words, lacks_misused, keeps_itself}
+use Rattle.dh_top.proofs.Using.{uses_by_words}
 use Rattle.dh_top.proofs.replies.reply_to.Goals as goal
 
 pub returns-in-Ok-clause-made : goal.returns-in-Ok-clause-made
@@ -13,3 +14,6 @@ returns-in-Err-clause-made g c = made_misused _ c.in-Err.k _ _ c.misuse.result c
 
 pub returns-in-Err-clause-lacks : goal.returns-in-Err-clause-lacks
 returns-in-Err-clause-lacks g c = lacks_misused _ _ _ c.misuse.result (refl, refl)
+
+pub returns-in-Ok-clause-desks : goal.returns-in-Ok-clause-desks
+returns-in-Ok-clause-desks g c = uses_by_words _ (map string_bytes c.args.words.now) c.in-Ok.command _ _ _ c.in-Ok.ensures c.perform.ensures.desks

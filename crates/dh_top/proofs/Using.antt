@@ -1,0 +1,64 @@
+-- Which desks a run used.
+use Rattle.std.proofs.Common.{◌≡◌, ℕ, zero, suc, ◌+◌, ◌≤◌, ◌<◌, List, [], ◌∷◌, map, drop, Option, Bool, true, false, true≢false, if◌then◌else◌, Result, Ok, Err, refl, sym, ap, ◌∙◌, subst, arith}
+use Rattle.std.specs.Prelude.{IsTrue, OnOk, OnErr, max, min}
+use Rattle.dh_syntax.specs.declared.commands.Command.{Command}
+use Rattle.dh_syntax.specs.Command.Words.{Word, command_of, resolves as does_resolve}
+use Rattle.dh_top.specs.Outside.{Pair, AtFirst, at_first, UsesFirst, desks_of, desks_for}
+
+-- none was used
+pub uses_none : {D : Type 0} (filed : D → Option (List Pair)) (n : ℕ) (ds : List D) → UsesFirst filed n ds ds
+uses_none filed n ds = record { idle = refl; others = refl }
+
+-- ---- the first desk alone was used for what is kept
+
+rest_left : {D : Type 0} {P : D → D → Type 0} {mid after : List D} → AtFirst P mid after → drop 1 after ≡ drop 1 mid
+rest_left (at_first h) = refl
+
+both_left : {D T E : Type 0} (P Q : D → D → Type 0) (mid after : List D) (r : Result T E) → OnOk r (AtFirst P mid after) → OnErr r (AtFirst Q mid after) → drop 1 after ≡ drop 1 mid
+both_left P Q mid after (Ok x) p q = rest_left p
+both_left P Q mid after (Err e) p q = rest_left q
+
+drop_none : {D : Type 0} (n : ℕ) → drop {A = D} n [] ≡ []
+drop_none zero = refl
+drop_none (suc n) = refl
+
+behind_first : {D : Type 0} (n : ℕ) (ds es : List D) → 0 < n → drop 1 es ≡ drop 1 ds → drop n es ≡ drop n ds
+behind_first zero ds es some h = absurd (omega (arith, some))
+behind_first (suc n) [] [] some h = refl
+behind_first (suc n) [] (e ∷ es) some h = ap (drop n) h ∙ drop_none n
+behind_first (suc n) (d ∷ ds) [] some h = sym (drop_none n) ∙ ap (drop n) h
+behind_first (suc n) (d ∷ ds) (e ∷ es) some h = ap (drop n) h
+
+map_rest : {D A : Type 0} (f : D → A) (ds es : List D) → drop 1 es ≡ drop 1 ds → drop 1 (map f es) ≡ drop 1 (map f ds)
+map_rest f [] [] h = refl
+map_rest f [] (e ∷ es) h = ap (map f) h
+map_rest f (d ∷ ds) [] h = ap (map f) h
+map_rest f (d ∷ ds) (e ∷ es) h = ap (map f) h
+
+-- ---- the workers of a command
+
+used_by : (b : Bool) (m : ℕ) → b ≡ true → m ≡ (if b then m else 0)
+used_by true m t = refl
+used_by false m t = absurd (true≢false (sym t))
+
+module _ {D : Type 0} (filed : D → Option (List Pair)) (c : Command) (n w : ℕ) (before mid : List D) (takes : IsTrue (does_resolve c.verb)) (is : w ≡ max 1 (min c.workers n))
+    (idle : drop w mid ≡ drop w before) (same : map filed mid ≡ map filed before) where
+  workers : w ≡ desks_of c n
+  workers = is ∙ used_by (does_resolve c.verb) (max 1 (min c.workers n)) takes
+
+  -- nothing was kept
+  pub uses_workers : UsesFirst filed (desks_of c n) before mid
+  uses_workers = subst (λ k. UsesFirst filed k before mid) workers (record { idle = idle; others = ap (drop 1) same })
+
+  -- entries were kept at the first desk
+  pub uses_keeping : {T E : Type 0} (P Q : D → D → Type 0) (after : List D) (r : Result T E) → OnOk r (AtFirst P mid after) → OnErr r (AtFirst Q mid after)
+      → UsesFirst filed (desks_of c n) before after
+  uses_keeping P Q after r p q =
+      let rest = both_left P Q mid after r p q in
+      subst (λ k. UsesFirst filed k before after) workers
+      (record { idle = behind_first w mid after (omega (arith, is)) rest ∙ idle; others = map_rest filed mid after rest ∙ ap (drop 1) same })
+
+-- a command by its words
+pub uses_by_words : {D : Type 0} (filed : D → Option (List Pair)) (words : List Word) (c : Command) (n : ℕ) (before after : List D) → command_of words ≡ Ok c
+    → UsesFirst filed (desks_of c n) before after → UsesFirst filed (desks_for (command_of words) n) before after
+uses_by_words filed words c n before after e u = subst (λ r. UsesFirst filed (desks_for r n) before after) (sym e) u
