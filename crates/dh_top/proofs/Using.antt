@@ -1,13 +1,10 @@
 -- Which desks a run used.
-use Rattle.std.proofs.Common.{◌≡◌, ℕ, zero, suc, ◌+◌, ◌≤◌, ◌<◌, List, [], ◌∷◌, map, drop, Option, Bool, true, false, true≢false, if◌then◌else◌, Result, Ok, Err, refl, sym, ap, ◌∙◌, subst, arith}
+use Rattle.std.proofs.Common.{◌≡◌, ℕ, zero, suc, ◌+◌, ◌<◌, List, map, drop, Option, Bool, true, false, true≢false, if◌then◌else◌, Result, Ok, Err, refl, sym, ap, ◌∙◌, subst, arith}
 use Rattle.std.specs.Prelude.{IsTrue, OnOk, OnErr, max, min}
+use Rattle.std.proofs.lemmas.List.{drop-drop, drop-map}
 use Rattle.dh_syntax.specs.declared.commands.Command.{Command}
 use Rattle.dh_syntax.specs.Command.Words.{Word, command_of, resolves as does_resolve}
 use Rattle.dh_top.specs.Outside.{Pair, AtFirst, at_first, UsesFirst, desks_of, desks_for}
-
--- none was used
-pub uses_none : {D : Type 0} (filed : D → Option (List Pair)) (n : ℕ) (ds : List D) → UsesFirst filed n ds ds
-uses_none filed n ds = record { idle = refl; others = refl }
 
 -- ---- the first desk alone was used for what is kept
 
@@ -18,22 +15,14 @@ both_left : {D T E : Type 0} (P Q : D → D → Type 0) (mid after : List D) (r 
 both_left P Q mid after (Ok x) p q = rest_left p
 both_left P Q mid after (Err e) p q = rest_left q
 
-drop_none : {D : Type 0} (n : ℕ) → drop {A = D} n [] ≡ []
-drop_none zero = refl
-drop_none (suc n) = refl
-
 behind_first : {D : Type 0} (n : ℕ) (ds es : List D) → 0 < n → drop 1 es ≡ drop 1 ds → drop n es ≡ drop n ds
 behind_first zero ds es some h = absurd (omega (arith, some))
-behind_first (suc n) [] [] some h = refl
-behind_first (suc n) [] (e ∷ es) some h = ap (drop n) h ∙ drop_none n
-behind_first (suc n) (d ∷ ds) [] some h = sym (drop_none n) ∙ ap (drop n) h
-behind_first (suc n) (d ∷ ds) (e ∷ es) some h = ap (drop n) h
+behind_first (suc n) ds es some h =
+    let next : 1 + n ≡ suc n = omega arith in
+    subst (λ k. drop k es ≡ drop k ds) next (sym (drop-drop n 1 es) ∙ ap (drop n) h ∙ drop-drop n 1 ds)
 
 map_rest : {D A : Type 0} (f : D → A) (ds es : List D) → drop 1 es ≡ drop 1 ds → drop 1 (map f es) ≡ drop 1 (map f ds)
-map_rest f [] [] h = refl
-map_rest f [] (e ∷ es) h = ap (map f) h
-map_rest f (d ∷ ds) [] h = ap (map f) h
-map_rest f (d ∷ ds) (e ∷ es) h = ap (map f) h
+map_rest f ds es h = drop-map f 1 es ∙ ap (λ xs. map f xs) h ∙ sym (drop-map f 1 ds)
 
 -- ---- the workers of a command
 
