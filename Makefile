@@ -1,17 +1,45 @@
-# The two commands of the README. They add nothing to what the gate does.
+# make build      proves and builds the program
+# make run        the same, and runs it on an example
+# make install    the program, its manual page and completions; PREFIX, DESTDIR; make uninstall removes them
+# make check      the gate: every proof, test, refused edit, program and script that did not pass on this machine before (docs/GATE.md);
+#                 MINUTES=N begins no refused edits N minutes after it began
+# make check-all  the kit's own gate, which uses nothing of the store that make check keeps; to be passed before a release
 
-.PHONY: run check build
+PREFIX ?= /usr/local
+# The program that is installed.
+PROGRAM ?= crates/dhall/out/dhall
 
-# Builds the program, proved, and runs the main job on an example.
-run: build
-	cd crates/dhall/data && ../out/dhall normalize --workers 4 < ../stdin
-	cd crates/dhall/data && ../out/dhall type < ../stdin
-	printf '1 + 2' | crates/dhall/out/dhall encode | crates/dhall/out/dhall decode
+BIN = $(DESTDIR)$(PREFIX)/bin/dhall
+MANUAL = $(DESTDIR)$(PREFIX)/share/man/man1/dhall.1
+BASH_WORDS = $(DESTDIR)$(PREFIX)/share/bash-completion/completions/dhall
+ZSH_WORDS = $(DESTDIR)$(PREFIX)/share/zsh/site-functions/_dhall
+FISH_WORDS = $(DESTDIR)$(PREFIX)/share/fish/vendor_completions.d/dhall.fish
 
-# The built program stands at crates/dhall/out/dhall.
+.PHONY: build run install uninstall check check-all
+
+# The proved program, crates/dhall/out/dhall. It says which crate it is at.
 build:
-	cd crates/dhall && printf '1 + 2' | rt run -- encode > /dev/null
+	python3 tools/program.py
 
-# Every proof, test, refused edit and program.
+# The main job on an example.
+run: build
+	cd crates/dhall/data && ../out/dhall normalize < ../stdin
+
+# The program, its manual page, and completions. It builds nothing.
+install:
+	@test -x $(PROGRAM) || { echo "there is no $(PROGRAM): run make build first" >&2; exit 1; }
+	install -D -m 755 $(PROGRAM) $(BIN)
+	install -D -m 644 docs/dhall.1 $(MANUAL)
+	install -D -m 644 completions/dhall.bash $(BASH_WORDS)
+	install -D -m 644 completions/_dhall $(ZSH_WORDS)
+	install -D -m 644 completions/dhall.fish $(FISH_WORDS)
+
+uninstall:
+	rm -f $(BIN) $(MANUAL) $(BASH_WORDS) $(ZSH_WORDS) $(FISH_WORDS)
+
+# What it says last is how much passed, failed and was left.
 check:
+	tools/gate $(if $(MINUTES),--minutes $(MINUTES))
+
+check-all:
 	rt ci

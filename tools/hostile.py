@@ -20,11 +20,11 @@ import tempfile
 import time
 import traceback
 
-from attacks import binary, caches, endless, faults, graphs, growth, memory, places, shapes, streams, texts, typed, words
+from attacks import binary, caches, endless, faults, graphs, growth, json, memory, places, shapes, steps, streams, texts, typed, web, words
 from attacks.runs import Runs
 
 PARTS = {part.__name__.split(".")[-1]: part for part in (
-    endless, growth, memory, shapes, texts, binary, typed, graphs, faults, places, caches, streams, words)}
+    endless, growth, memory, shapes, texts, binary, typed, json, steps, graphs, faults, places, caches, streams, words, web)}
 
 
 def run_part(name, program, *options):

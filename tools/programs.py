@@ -1,13 +1,15 @@
 """Closed programs of ground types, made at random, each with the value that it stands for.
 
 A value is worked out in Python while the program is made, so the normal form of a program is known without a normaliser: it is
-the literal of its value. Expressions are those of expressions.py.
+the literal of its value, and so is its JSON value. Expressions are those of expressions.py.
 """
 
-NATURAL, BOOL, TEXT = "Natural", "Bool", "Text"
+NATURAL, BOOL, TEXT, INTEGER = "Natural", "Bool", "Text", "Integer"
 GROUND = [NATURAL, BOOL, TEXT, ("List", NATURAL), ("Optional", NATURAL), ("record", (("a", NATURAL), ("b", BOOL)))]
 NAMES = ["x", "y", "f", "_", "a"]
 MOST_NATURAL = 2 ** 128 - 1
+# What a JSON number may be.
+MOST_NUMBER, LEAST_NUMBER = 2 ** 64 - 1, -2 ** 63
 
 
 def builtin(name):
@@ -27,6 +29,8 @@ def type_of(t):
         return builtin(t)
     if t[0] == "record":
         return ("record type", [(label, type_of(u)) for label, u in t[1]])
+    if t[0] == "union":
+        return ("union", [(label, None if u is None else type_of(u)) for label, u in t[1]])
     if t[0] == "function":
         return ("pi", "_", type_of(t[1]), type_of(t[2]))
     return call(t[0], type_of(t[1]))
@@ -38,13 +42,56 @@ def literal(t, value):
         return ("nat", value)
     if t == BOOL:
         return ("bool", value)
+    if t == INTEGER:
+        return ("int", value)
     if t == TEXT:
         return ("text", [value], [])
+    if t[0] == "union":
+        return alternative(t, value[0], value[1] and literal(dict(t[1])[value[0]], value[1][0]))
     if t[0] == "List":
         return ("list", [literal(t[1], v) for v in value]) if value else ("empty list", type_of(t))
     if t[0] == "Optional":
         return call("None", type_of(t[1])) if value is None else ("some", literal(t[1], value[0]))
     return ("record", [(label, literal(u, value[label])) for label, u in t[1]])
+
+
+def alternative(t, label, e):
+    """An alternative of a union, of this expression if it has a type."""
+    bare = ("field", type_of(t), label)
+    return bare if e is None else ("app", bare, e)
+
+
+class NoValue(Exception):
+    """A value has no JSON value: its normal form has none at this place, which is the first one."""
+
+
+def below(number, t, value):
+    """The JSON value of a part of this number."""
+    try:
+        return json_value(t, value)
+    except NoValue as fault:
+        raise NoValue([number, *fault.args[0]]) from None
+
+
+def json_value(t, value):
+    """The JSON value as Python has it, with the keys of objects in order."""
+    if t in (NATURAL, INTEGER):
+        if not LEAST_NUMBER <= value <= MOST_NUMBER:
+            raise NoValue([])
+        return value
+    if t in (BOOL, TEXT):
+        return value
+    if t[0] == "List":
+        return [below(k, t[1], v) for k, v in enumerate(value)]
+    if t[0] == "Optional":
+        return None if value is None else below(0, t[1], value[0])
+    if t[0] == "record":
+        rows = sorted(t[1], key=lambda row: row[0].encode())
+        return {label: below(k, u, value[label]) for k, (label, u) in enumerate(rows)}
+    if t[0] == "union":
+        label, payload = value
+        return label if payload is None else below(1, dict(t[1])[label], payload[0])
+    raise NoValue([])
 
 
 class TooLarge(Exception):
@@ -60,13 +107,13 @@ def natural(n):
 class Maker:
     """Makes programs, each as an expression and a function from the values of the variables in scope to its value."""
 
-    def __init__(self, source):
-        self.source = source
+    def __init__(self, source, ground=GROUND):
+        self.source, self.ground = source, ground
 
     def program(self, depth):
         """A program, its type and its value."""
         while True:
-            t = self.source.choice(GROUND)
+            t = self.source.choice(self.ground)
             e, run = self.make(t, depth, [])
             try:
                 return e, t, run([])
@@ -111,18 +158,18 @@ class Maker:
         return ("lam", name, type_of(t[1]), body), lambda values: lambda v: run(values + [v])
 
     def kind(self):
-        return self.source.choice(GROUND)
+        return self.source.choice(self.ground)
 
     # ---- ways that are there for every type
 
     def applied(self, t, depth, scope):
-        a = self.source.choice(GROUND + [("function", NATURAL, NATURAL)])
+        a = self.source.choice(self.ground + [("function", NATURAL, NATURAL)])
         f, run = self.make(("function", a, t), depth, scope)
         e, run_argument = self.make(a, depth, scope)
         return ("app", f, e), lambda values: run(values)(run_argument(values))
 
     def bound(self, t, depth, scope):
-        a = self.source.choice(GROUND + [("function", NATURAL, NATURAL)])
+        a = self.source.choice(self.ground + [("function", NATURAL, NATURAL)])
         name = self.source.choice(NAMES)
         e, run_value = self.make(a, depth, scope)
         body, run = self.make(t, depth, scope + [(name, a)])

@@ -61,7 +61,7 @@ def right_and_wrong(runs):
     """The entry is asked before the file, and is mended where it is no good one."""
     root = frozen("./f", FORM)
     gone = refused(b"in ./f: absent", IMPORT)
-    differs = refused(b"in ./f: digest differs: wanted sha256:%s got sha256:%s" % (
+    differs = refused(b"in ./f: digest differs: wanted %s got %s" % (
         digest(FORM).encode(), digest(expressions.encoded(("nat", 2))).encode()), IMPORT)
     with new_folder() as folder:
         cache, env = os.path.join(folder, "cache"), {"XDG_CACHE_HOME": os.path.join(folder, "cache")}
@@ -91,7 +91,8 @@ def seen(verb, root):
     """What a command writes of a root that is the frozen record."""
     kind = ("record type", [("a", ("builtin", "Natural")), ("b", ("app", ("builtin", "List"), ("builtin", "Text")))])
     rows = {"resolve": LINE, "normalize": LINE, "type": written(expressions.printed(kind).encode() + b"\n"),
-            "hash": written(f"sha256:{digest(FORM)}\n".encode()), "freeze": written(root)}
+            "hash": written(f"sha256:{digest(FORM)}\n".encode()), "freeze": written(root),
+            "to-json": written('{"a":1,"b":["x","λ"]}\n'.encode())}
     return rows[verb]
 
 

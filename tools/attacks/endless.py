@@ -6,7 +6,7 @@ may want memory first."""
 
 import resource
 
-from attacks.runs import DEEP, LONG, NO_MEMORY, SPENT, new_folder, refused, write, written
+from attacks.runs import DEEP, LONG, NO_MEMORY, RESOLVING, SPENT, new_folder, refused, write, written
 
 MOST = 2 ** 128 - 1
 MOST_MEMORY = 3 << 30
@@ -74,7 +74,8 @@ def in_the_input(runs):
         check(runs, "endless", name, ["normalize"], text, SPENT, DEEP)
         check(runs, "endless", f"type, {name}", ["type"], text, written(TYPES.get(name, b"Natural") + b"\n"))
     text = ENDLESS["a fold that does nothing"].encode()
-    check(runs, "endless", "hash", ["hash"], text, SPENT)
+    for verb in ["hash", "to-json"]:
+        check(runs, "endless", verb, [verb], text, SPENT)
     check(runs, "endless", "freeze", ["freeze"], text, written(text))
     for name, around in (("below a binder", b"\\(n : Natural) -> %s + n"), ("in a list", b"[ %s ]"), ("in a record", b"{ a = %s }"),
                          ("as an argument", b"(\\(x : Natural) -> x + 1) (%s)"), ("in a text", b'"${Natural/show (%s)}"')):
@@ -99,7 +100,7 @@ def in_imports(runs):
         write(folder, "good", "1")
         for n in range(3):
             write(folder, f"e{n}", ENDLESS["2^500 steps"])
-        for verb in ["resolve", "type", "normalize", "hash", "freeze"]:
+        for verb in RESOLVING:
             check(runs, "endless imports", verb, [verb], b"./endless", refused(line, 4), folder=folder)
         for name, text in (("from below", b"[ ./good, ./above ]"), ("before a choice", b"./endless ? 1"), ("behind a choice", b"./gone ? ./endless")):
             check(runs, "endless imports", name, ["normalize"], text, refused(line, 4), folder=folder)

@@ -24,7 +24,8 @@ OUTSIDE = {
     "./gone": ABSENT, "./gone/away": ABSENT, "./folder": ABSENT, "./f0.dhall/below": ABSENT, "env:UNSET": ABSENT, "~/gone": ABSENT,
     "missing": Fault("missing", IMPORT, True),
     "https://example.com/a": Fault("https is refused", IMPORT, True),
-    "http://example.com/a": Fault("status 0", IMPORT, False),
+    # Nobody listens there.
+    "http://127.0.0.1:1/a": Fault("device failed", DESK, False),
     "./link": Fault("device failed", DESK, False),
 }
 # Files that are no expression, or have no value; those of the first kind are no text either.
@@ -79,7 +80,7 @@ class World:
         if not isinstance(got, int):
             return got
         found = hashlib.sha256(expressions.encoded(("nat", got))).digest()
-        line = f"digest differs: wanted sha256:{digest.hex()} got sha256:{found.hex()}"
+        line = f"digest differs: wanted {digest.hex()} got {found.hex()}"
         return got if found == digest else At(location, Fault(line, IMPORT, True))
 
     def walk(self, e, chain, location):
@@ -168,7 +169,7 @@ def wanted_of(end, verb):
     if isinstance(end, At):
         return refused(f"in {end.location}: {end.fault.line}".encode(), end.fault.status)
     digest = hashlib.sha256(expressions.encoded(("nat", end))).hexdigest()
-    out = {"normalize": f"{end}\n", "type": "Natural\n", "hash": f"sha256:{digest}\n"}
+    out = {"normalize": f"{end}\n", "type": "Natural\n", "hash": f"sha256:{digest}\n", "to-json": f"{end}\n"}
     return written(out[verb].encode()) if verb in out else None
 
 

@@ -8,7 +8,7 @@ import resource
 
 import expressions
 from attacks.places import as_nobody
-from attacks.runs import LONG, NO_MEMORY, OK, RESOLVING, VERBS, new_folder, refused, shown, write, written
+from attacks.runs import LONG, NO_JSON, NO_MEMORY, OK, RESOLVING, VERBS, new_folder, refused, shown, write, written
 from attacks.streams import GOOD, good_run, much
 
 MB = 1 << 20
@@ -47,7 +47,7 @@ def make_files(folder):
 def inputs(runs, verb, value):
     """Inputs of a command with what it writes of them; the value is that of `./f0`."""
     rows = [("little", GOOD[verb][0], good_run(runs, verb))]
-    if verb in ("encode", "decode", "resolve", "normalize", "freeze"):
+    if verb in ("encode", "decode", "resolve", "normalize", "freeze", "to-json", "steps"):
         text, out = much(verb)
         rows.append(("much", text, written(out)))
     if verb in RESOLVING:
@@ -55,7 +55,7 @@ def inputs(runs, verb, value):
         rows.append(("a bad import", b"[ ./f0, ./gone ]", refused(b"in ./gone: absent", 3)))
         form = expressions.encoded(("nat", value))
         line, digest = b"%d\n" % value, digest_line(form)
-        out = {"resolve": line, "type": b"Natural\n", "normalize": line, "hash": digest, "freeze": b"./f0 " + digest[:-1]}
+        out = {"resolve": line, "type": b"Natural\n", "normalize": line, "hash": digest, "freeze": b"./f0 " + digest[:-1], "to-json": line}
         rows.append(("imports", b"./f0", written(out[verb])))
     return rows
 
@@ -155,7 +155,7 @@ def deep_forms(runs):
             for given in (text.encode(), b"./deep"):
                 for verb in RESOLVING:
                     ran = runs.run("deep forms", f"{verb}, {name}", [verb], given, folder=folder, before=limited(resource.RLIMIT_STACK, 64 * MB))
-                    if ran is not None and ran.status != OK:
+                    if ran is not None and ran.status not in ((OK, NO_JSON) if verb == "to-json" else (OK,)):
                         runs.report(f"{verb}, {name}", f"was {shown(ran)}")
                     for workers in ["1", "4"] if ran else []:
                         runs.check("deep forms", f"{verb}, {name}, a stack of 1 MB, {workers} workers", [verb, "--workers", workers], given, ran, folder=folder,

@@ -14,31 +14,34 @@ SECONDS = 10
 # For runs that are to spend a whole budget.
 LONG = 120
 
-OK, TEXT, ILL, IMPORT, LIMIT, USAGE, READ, WRITE, DESK, MEMORY = range(10)
-RESOLVING = ["resolve", "type", "normalize", "hash", "freeze"]
-READING = ["encode", "decode", *RESOLVING]
+OK, TEXT, ILL, IMPORT, LIMIT, USAGE, READ, WRITE, DESK, MEMORY, NO_JSON, STEP = range(12)
+RESOLVING = ["resolve", "type", "normalize", "hash", "freeze", "to-json"]
+READING = ["encode", "decode", *RESOLVING, "steps"]
 VERBS = [*READING, "--help", "--version"]
 
 PLACE = rb"(?:in [^\n]+: )?"
-DIGEST = rb"sha256:[0-9a-f]{64}"
+DIGEST = rb"[0-9a-f]{64}"
 TEXT_FAULT = (rb"(?:not UTF-8|syntax|number too wide|left out of this profile) at (\d+)"
               rb"|larger than 1048576 bytes|nested deeper than 500")
 BYTES_FAULT = (rb"(?:cut|indefinite length|float|tag|number too wide|shape|bytes left) at (\d+)"
                rb"|larger than 1048576 bytes|nested deeper than 500")
-ILL_FAULT = rb"type rule (\d+) at (?:root|\d+(?:/\d+)*), line (\d+), column (\d+)"
+PATH = rb"(?:root|\d+(?:/\d+)*)"
+ILL_FAULT = rb"type rule (\d+) at " + PATH + rb", line (\d+), column (\d+)"
 LIMIT_FAULT = rb"number or literal too wide|budget of 16777216 spent|too deep"
-IMPORT_FAULT = (rb"absent|missing|status 0|https is refused|digest differs: wanted " + DIGEST + rb" got " + DIGEST
+IMPORT_FAULT = (rb"absent|missing|status \d{1,3}|https is refused|digest differs: wanted " + DIGEST + rb" got " + DIGEST
                 + rb"|may not import [^\n]+|cross-origin import of [^\n]+ refused|import cycle")
 LINES = {
     TEXT: PLACE + rb"(?:" + TEXT_FAULT + rb"|" + BYTES_FAULT + rb")",
     ILL: PLACE + ILL_FAULT,
     IMPORT: rb"in [^\n]+: (?:" + IMPORT_FAULT + rb")",
-    LIMIT: PLACE + rb"(?:" + LIMIT_FAULT + rb")|more than 4096 imports",
+    LIMIT: PLACE + rb"(?:" + LIMIT_FAULT + rb")|more than 4096 imports|grown too large at step \d+",
     USAGE: rb"usage: word \d+",
     READ: rb"read failed",
     WRITE: rb"write failed",
     DESK: rb"in [^\n]+: device failed",
     MEMORY: rb"out of memory",
+    NO_JSON: rb"no JSON value at " + PATH,
+    STEP: rb"not in the fragment at " + PATH + rb"|no rule at step \d+",
 }
 LINES = {status: re.compile(rb"(?:" + line + rb")\n") for status, line in LINES.items()}
 
@@ -78,7 +81,7 @@ def shown(ran):
 def flaw(ran):
     """What is wrong with the form of a run, if anything is: its status, or what stands on the two outputs."""
     status, out, err = ran
-    if status not in range(10):
+    if status not in LINES and status != OK:
         return "no documented status" if status >= 0 else "ended by a signal"
     if status == OK and (err or out == b""):
         return "an answer with a line, or without a byte"

@@ -5,7 +5,7 @@ workers."""
 import hashlib
 
 import expressions
-from attacks.runs import IMPORT, LONG, MOST_KEYS, TOO_MANY, new_folder, refused, write, written
+from attacks.runs import IMPORT, LONG, MOST_KEYS, RESOLVING, TOO_MANY, new_folder, refused, write, written
 from attacks.typed import digest_line
 
 WORKERS = [1, 2, 4, 16, 64]
@@ -30,7 +30,7 @@ def fans(runs, folder):
         root = items(f"./f{k}" for k in range(n))
         check(runs, f"a fan of {n}", root, written(items(map(str, range(n))) + b"\n"), folder)
     over = items(f"./f{k}" for k in range(MOST_KEYS + 1))
-    for verb in ["resolve", "type", "normalize", "hash", "freeze"]:
+    for verb in RESOLVING:
         check(runs, f"{verb} of a fan of 4097", over, TOO_MANY, folder, [1, 4], verb)
     check(runs, "a fan of 4097 that are absent", items(f"./gone{k}" for k in range(MOST_KEYS + 1)), TOO_MANY, folder)
     check(runs, "a fan of 20000", items(f"./gone{k}" for k in range(20_000)), TOO_MANY, folder)

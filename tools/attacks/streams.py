@@ -13,7 +13,7 @@ from attacks.texts import balanced
 # An input, what is written of it, and an input with the line of its fault.
 GOOD = {"encode": (b"True", b"\xf5"), "decode": (b"\xf5", b"True\n"), "resolve": (b"True", b"True\n"), "type": (b"True", b"Bool\n"),
         "normalize": (b"True", b"True\n"), "hash": (b"True", b"sha256:27abdeddfe8503496adeb623466caa47da5f63abd2bc6fa19f6cfcb73ecfed70\n"),
-        "freeze": (b"True", b"True"), "--help": (b"", None), "--version": (b"", b"dhall 0.1.0, standard 23\n")}
+        "freeze": (b"True", b"True"), "to-json": (b"True", b"true\n"), "steps": (b"True", b"True\nnormal\n"), "--help": (b"", None), "--version": (b"", b"dhall 0.1.0, standard 23\n")}
 BAD = {verb: (b"(", b"syntax at 1\n") for verb in READING} | {"decode": (b"\xff", b"indefinite length at 0\n")}
 
 
@@ -104,7 +104,9 @@ def much(verb):
     text, form = balanced(16)
     texts = ("text", ["x" * 1_000_000], [])
     long = expressions.printed(texts).encode()
-    rows = {"encode": (text, form), "decode": (expressions.encoded(texts), long + b"\n"), "freeze": (long, long)}
+    ones = expressions.printed(("list", [("nat", 1)] * 300_000)).encode()
+    rows = {"encode": (text, form), "decode": (expressions.encoded(texts), long + b"\n"), "freeze": (long, long),
+            "steps": (ones, ones + b"\nnormal\n")}
     return rows.get(verb, (long, long + b"\n"))
 
 
@@ -153,6 +155,6 @@ def attack(runs):
         broken_pipes(runs, verb)
     for verb in READING:
         endless_pipe(runs, verb)
-    for verb in ["encode", "decode", "resolve", "normalize", "freeze"]:
+    for verb in ["encode", "decode", "resolve", "normalize", "freeze", "to-json", "steps"]:
         slow_outputs(runs, verb)
     byte_by_byte(runs)

@@ -3,12 +3,13 @@ is at a place that is there, a normal form is its own normal form, `resolve` and
 one with imports, of which hardly any is there, ends the same way by any number of workers."""
 
 import hashlib
+import json
 import random
 import re
 
 import expressions
 import programs
-from attacks.runs import ILL, ILL_FAULT, MOST_BYTES, OK, TOO_NESTED, new_folder, written
+from attacks.runs import ILL, ILL_FAULT, MOST_BYTES, NO_JSON, OK, RESOLVING, TOO_NESTED, new_folder, refused, written
 
 PLACE = re.compile(ILL_FAULT + rb"\n")
 
@@ -22,10 +23,27 @@ def printed_line(e):
     return written(expressions.printed(e).encode() + b"\n")
 
 
+def json_text(value):
+    """The compact text of a JSON value."""
+    return json.dumps(value, ensure_ascii=False, separators=(",", ":"))
+
+
+def place(path):
+    return "/".join(map(str, path)) or "root"
+
+
+def json_line(t, value):
+    """What `to-json` writes of a program of this type and value."""
+    try:
+        return written(json_text(programs.json_value(t, value)).encode() + b"\n")
+    except programs.NoValue as fault:
+        return refused(f"no JSON value at {place(fault.args[0])}".encode(), NO_JSON)
+
+
 def answers(t, value):
     """What the commands that infer a type write of a program of this type and value."""
     form = programs.literal(t, value)
-    return {"type": printed_line(programs.type_of(t)), "normalize": printed_line(form), "hash": digest_line(form)}
+    return {"type": printed_line(programs.type_of(t)), "normalize": printed_line(form), "hash": digest_line(form), "to-json": json_line(t, value)}
 
 
 def has_imports(e):
@@ -61,7 +79,7 @@ def check_plain(runs, name, e, text):
     runs.check("types", f"freeze, {name}", ["freeze"], text, written(text))
     ran = runs.run("types", name, ["type"], text)
     if ran is None or ran.status != OK:
-        for verb in ["normalize", "hash"] if ran else []:
+        for verb in ["normalize", "hash", "to-json"] if ran else []:
             runs.check("types", f"{verb}, {name}", [verb], text, ran)
         if ran:
             check_place(runs, name, text, ran)
@@ -73,7 +91,7 @@ def check_plain(runs, name, e, text):
 
 def check_importing(runs, source, name, text, folder):
     """An expression with imports."""
-    verb = source.choice(["resolve", "type", "normalize", "hash", "freeze"])
+    verb = source.choice(RESOLVING)
     ran = runs.run("imports that are not there", name, [verb, "--workers", "1"], text, folder=folder)
     if ran is not None:
         check_place(runs, name, text, ran)

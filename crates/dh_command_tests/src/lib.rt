@@ -1,17 +1,14 @@
-//! Tests of whole runs of the command, over desks and streams in memory.
+//! Tests of what the cases of `dhall_cases` cannot say: files of cases that are refused, the program's streams and
+//! words, texts from servers on loopback, and workers beside each other.
 #![tactic(auto)]
 
 #[cfg(test)]
-mod grammar;
-#[cfg(test)]
-mod imports;
-#[cfg(test)]
-mod normal_forms;
+mod case_files;
 #[cfg(test)]
 mod program;
 #[cfg(test)]
-mod runs;
-#[cfg(test)]
 mod streams;
 #[cfg(test)]
-mod types;
+mod web;
+#[cfg(test)]
+mod workers;

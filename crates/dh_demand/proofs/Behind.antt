@@ -10,16 +10,16 @@ use Rattle.dh_syntax.specs.declared.expressions.Op.{Op}
 use Rattle.dh_syntax.specs.declared.locations.Digest.{Digest}
 use Rattle.dh_syntax.specs.declared.locations.Import.{Import}
 use Rattle.dh_syntax.specs.declared.locations.Key.{Key}
-use Rattle.dh_syntax.specs.declared.outcomes.Outcome as program
-use Rattle.dh_syntax.specs.declared.outcomes.Outcome.TheVariants as variants
-use Rattle.dh_syntax.specs.declared.outcomes.Why.TheVariants as whys
+use Rattle.dh_imports.specs.declared.outcomes.Outcome as program
+use Rattle.dh_imports.specs.declared.outcomes.Outcome.TheVariants as variants
+use Rattle.dh_imports.specs.declared.outcomes.Why.TheVariants as whys
 use Rattle.dh_syntax.specs.Expressions.Bridge.{term, row_of}
 use Rattle.dh_syntax.specs.Expressions.Tree.{Row as Parts, Leaf, Node, end, kid, Name, Var, Term}
-use Rattle.dh_syntax.specs.Imports.Freezing.{takes_content, digest_behind, goes_on, own_digest, digests_behind, digests_behind_row}
+use Rattle.dh_imports.specs.Freezing.{takes_content, digest_behind, goes_on, own_digest, digests_behind, digests_behind_row}
 use Rattle.dh_syntax.specs.Imports.Keys.{chained}
-use Rattle.dh_syntax.specs.Imports.LastStep.{digest_of}
-use Rattle.dh_syntax.specs.Imports.Outcomes.{Outcome, plain, of_blame}
-use Rattle.dh_syntax.specs.Imports.Walk.{Form, importing, choosing, other, form_of, Walked, Ready, Fails, Turns, Needs, allowed, by_outcome, is_sane, walk, walk_key, keys_of_form, keys_of, keys_of_row}
+use Rattle.dh_syntax.specs.Bytes.Digests.{digest_of}
+use Rattle.dh_imports.specs.Outcomes.{Outcome, plain, of_blame}
+use Rattle.dh_imports.specs.Walk.{Form, importing, choosing, other, form_of, Walked, Ready, Fails, Turns, Needs, allowed, by_outcome, is_sane, walk, walk_key, keys_of_form, keys_of, keys_of_row}
 use Rattle.dh_syntax.proofs.Bridge.{at_term-Var, at_term-Node}
 use Rattle.dh_syntax.proofs.Rows.{row_of-drop_item, row_of-drop_all}
 use Rattle.dh_laws.proofs.KeyOrder.{some-equal}

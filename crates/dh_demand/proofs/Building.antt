@@ -8,14 +8,14 @@ use Rattle.dh_syntax.specs.declared.expressions.Kid.{Kid}
 use Rattle.dh_syntax.specs.declared.expressions.Op.{Op}
 use Rattle.dh_syntax.specs.declared.locations.Key.{Key}
 use Rattle.dh_syntax.specs.declared.locations.Loc.{Loc}
-use Rattle.dh_syntax.specs.declared.outcomes.Outcome as program
-use Rattle.dh_syntax.specs.declared.outcomes.Outcome.TheVariants as variants
-use Rattle.dh_syntax.specs.declared.outcomes.Why.TheVariants as whys
+use Rattle.dh_imports.specs.declared.outcomes.Outcome as program
+use Rattle.dh_imports.specs.declared.outcomes.Outcome.TheVariants as variants
+use Rattle.dh_imports.specs.declared.outcomes.Why.TheVariants as whys
 use Rattle.dh_syntax.specs.Expressions.Bridge.{term, row_of}
 use Rattle.dh_syntax.specs.Expressions.Rows.{◌+++◌}
 use Rattle.dh_syntax.specs.Expressions.Tree.{Row as Parts, Leaf, Node, kid, Name, Var, Term}
-use Rattle.dh_syntax.specs.Imports.Outcomes.{Outcome, plain, of_blame, may_go_on}
-use Rattle.dh_syntax.specs.Imports.Walk.{form_of, Form, choosing, other, Walked, Ready, Fails, Turns, Needs, and_then, or_else, in_order, allowed, by_outcome, is_sane, walk_node, walk, walks, keys_of, keys_of_row}
+use Rattle.dh_imports.specs.Outcomes.{Outcome, plain, of_blame, may_go_on}
+use Rattle.dh_imports.specs.Walk.{form_of, Form, choosing, other, Walked, Ready, Fails, Turns, Needs, and_then, or_else, in_order, allowed, by_outcome, is_sane, walk_node, walk, walks, keys_of, keys_of_row}
 use Rattle.dh_syntax.specs.Normalising.Trees.{replace_row}
 use Rattle.dh_syntax.proofs.Bridge.{term-Var, term-Node, row_of-nil, at_term-Var, at_term-Node}
 use Rattle.dh_syntax.proofs.Rows.{+++-end, row_keeps, row_of-drop_item, row_of-drop_all}

@@ -14,8 +14,8 @@ use Rattle.dh_syntax.specs.Expressions.Bridge.{term, row_of}
 use Rattle.dh_syntax.specs.Expressions.Numbers.{bytes_eq}
 use Rattle.dh_syntax.specs.Expressions.SameTree.{option_eq, op_eq, term_eq, row_eq}
 use Rattle.dh_syntax.specs.Expressions.Tree.{Row as Parts, Leaf, Node, end, kid, Name, Var, Term}
-use Rattle.dh_syntax.specs.Imports.Outcomes.{may_go_on}
-use Rattle.dh_syntax.specs.Imports.Walk.{form_of, Form, choosing, other, Walked, Ready, Fails, Turns, Needs, and_then, or_else, in_order, walk_node, walk, walks, keys_of, keys_of_row}
+use Rattle.dh_imports.specs.Outcomes.{may_go_on}
+use Rattle.dh_imports.specs.Walk.{form_of, Form, choosing, other, Walked, Ready, Fails, Turns, Needs, and_then, or_else, in_order, walk_node, walk, walks, keys_of, keys_of_row}
 use Rattle.dh_syntax.specs.Normalising.Trees.{replace_row}
 use Rattle.dh_syntax.proofs.Bridge.{term-Var, term-Node, at_term-Var, at_term-Node}
 use Rattle.dh_syntax.proofs.Rows.{row_of-drop_item, row_of-drop_all}

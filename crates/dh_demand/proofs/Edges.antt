@@ -7,7 +7,7 @@ use Rattle.dh_syntax.specs.declared.locations.Key.{Key}
 use Rattle.dh_syntax.specs.declared.locations.Loc.{Loc}
 use Rattle.dh_syntax.specs.Expressions.Bridge.{term, row_of}
 use Rattle.dh_syntax.specs.Expressions.Tree.{Row as Parts, Leaf, Node, end, kid, Name, Var, Term}
-use Rattle.dh_syntax.specs.Imports.Walk.{Form, importing, choosing, other, form_of, keys_of_form, keys_of, keys_of_row}
+use Rattle.dh_imports.specs.Walk.{Form, importing, choosing, other, form_of, keys_of_form, keys_of, keys_of_row}
 use Rattle.dh_syntax.proofs.Rows.{row_of-drop_item}
 use Rattle.dh_demand.specs.declared.scans.Edge.{Edge}
 use Rattle.dh_demand.specs.Results.{Row}

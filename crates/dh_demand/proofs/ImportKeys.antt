@@ -9,7 +9,7 @@ use Rattle.dh_syntax.specs.declared.locations.Key.{Key}
 use Rattle.dh_syntax.specs.declared.locations.Loc.{Loc}
 use Rattle.dh_syntax.specs.Expressions.Bridge.{term, row_of}
 use Rattle.dh_syntax.specs.Expressions.Tree.{Name}
-use Rattle.dh_syntax.specs.Imports.Walk.{form_of, keys_of, keys_of_form, keys_of_row}
+use Rattle.dh_imports.specs.Walk.{form_of, keys_of, keys_of_form, keys_of_row}
 use Rattle.dh_syntax.proofs.Bridge.{at_term-Var, at_term-Node}
 use Rattle.dh_syntax.proofs.Rows.{at_row_of-drop_item, at_row_of-drop_all}
 

@@ -13,7 +13,7 @@ use Rattle.dh_syntax.specs.Expressions.Bridge.{term, row_of}
 use Rattle.dh_syntax.specs.Expressions.Tree.{Node, end, kid, Name, Term}
 use Rattle.dh_syntax.specs.Normalising.Trees.{replace_row}
 use Rattle.dh_syntax.specs.Imports.Keys.{chained}
-use Rattle.dh_syntax.specs.Imports.Walk.{Form, importing, choosing, other, form_of, Walked, Ready, Fails, Turns, Needs, and_then, or_else, in_order, walk_node, walk, walks, course, course_key, course_node, courses, keys_of_form, keys_of, keys_of_row}
+use Rattle.dh_imports.specs.Walk.{Form, importing, choosing, other, form_of, Walked, Ready, Fails, Turns, Needs, and_then, or_else, in_order, walk_node, walk, walks, course, course_key, course_node, courses, keys_of_form, keys_of, keys_of_row}
 use Rattle.dh_syntax.proofs.Bridge.{at_term-Var, at_term-Node}
 use Rattle.dh_syntax.proofs.Rows.{row_of-drop_item, row_of-drop_all}
 use Rattle.dh_demand.specs.declared.scans.Edge.{Edge}

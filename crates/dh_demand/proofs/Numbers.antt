@@ -3,9 +3,9 @@ use Rattle.std.specs.Prelude.{◌≡◌, ◌⊎◌, ◌<◌, ℕ, suc, true, fal
 use Rattle.std.specs.Option.{option_map}
 use Rattle.std.proofs.Common.{ap, sym, ◌∙◌, subst, inl, inr, arith}
 use Rattle.dh_syntax.specs.declared.locations.Key.{Key}
-use Rattle.dh_syntax.specs.declared.outcomes.Outcome as program
+use Rattle.dh_imports.specs.declared.outcomes.Outcome as program
 use Rattle.dh_syntax.specs.Imports.Keys.{key_eq}
-use Rattle.dh_syntax.specs.Imports.Outcomes.{plain}
+use Rattle.dh_imports.specs.Outcomes.{plain}
 use Rattle.dh_laws.proofs.KeyOrder.{bool-case, key_eq-true, some-equal}
 use Rattle.dh_demand.specs.Results.{Row, key_at, outcome_at, number_of, ask_of}
 

@@ -8,7 +8,7 @@ use Rattle.dh_syntax.specs.declared.expressions.Kid.{Kid}
 use Rattle.dh_syntax.specs.declared.expressions.Op.{Op}
 use Rattle.dh_syntax.specs.Expressions.Bridge.{term, row_of}
 use Rattle.dh_syntax.specs.Expressions.Tree.{Name}
-use Rattle.dh_syntax.specs.Imports.Walk.{form_of}
+use Rattle.dh_imports.specs.Walk.{form_of}
 use Rattle.dh_syntax.proofs.Bridge.{at_term-Var, at_term-Node}
 use Rattle.dh_syntax.proofs.Rows.{at_row_of-drop_item, at_row_of-drop_all}
 use Rattle.dh_demand.specs.declared.scans.Edge.{Edge}

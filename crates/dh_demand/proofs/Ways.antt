@@ -9,8 +9,8 @@ use Rattle.dh_syntax.specs.declared.expressions.Op.{Op}
 use Rattle.dh_syntax.specs.declared.locations.Loc.{Loc}
 use Rattle.dh_syntax.specs.Expressions.Bridge.{term, row_of}
 use Rattle.dh_syntax.specs.Expressions.Tree.{Name, Term}
-use Rattle.dh_syntax.specs.Imports.TextPaths.{Way, to_side, way_at, way_on, way_into, text_path, text_paths}
-use Rattle.dh_syntax.specs.Imports.Walk.{choosing, form_of, keys_of_row, Walked, Ready, Fails, Turns, Needs, walk, walks}
+use Rattle.dh_imports.specs.TextPaths.{Way, to_side, way_at, way_on, way_into, text_path, text_paths}
+use Rattle.dh_imports.specs.Walk.{choosing, form_of, keys_of_row, Walked, Ready, Fails, Turns, Needs, walk, walks}
 use Rattle.dh_syntax.proofs.Bridge.{at_term-Var, at_term-Node}
 use Rattle.dh_syntax.proofs.Rows.{row_of-drop_item, row_of-drop_all}
 use Rattle.dh_demand.specs.declared.ends.Next.{Next}

@@ -1,10 +1,10 @@
 -- The digests of values, by the numbers of their keys.
 use Rattle.std.specs.Prelude.{ℕ, List, map, All, Option, Some, None, IsSome, IfSome}
 use Rattle.dh_syntax.specs.declared.locations.Digest.{Digest}
-use Rattle.dh_syntax.specs.declared.outcomes.Outcome as program
-use Rattle.dh_syntax.specs.declared.outcomes.Outcome.TheVariants as variants
+use Rattle.dh_imports.specs.declared.outcomes.Outcome as program
+use Rattle.dh_imports.specs.declared.outcomes.Outcome.TheVariants as variants
 use Rattle.dh_syntax.specs.Expressions.Bridge.{term}
-use Rattle.dh_syntax.specs.Imports.LastStep.{digest_of}
+use Rattle.dh_syntax.specs.Bytes.Digests.{digest_of}
 use Rattle.dh_demand.specs.Results.{Row, outcome_at}
 
 -- the digest of the value of an outcome, where it has one

@@ -3,7 +3,7 @@ use Rattle.std.specs.Prelude.{◌≡◌, ◌<◌, List, length, Option, Some}
 use Rattle.dh_syntax.specs.declared.locations.Key.{Key}
 use Rattle.dh_syntax.specs.declared.locations.Loc.{Loc}
 use Rattle.dh_syntax.specs.Expressions.Tree.{Term}
-use Rattle.dh_syntax.specs.Imports.Walk.{Walked, Ready, Fails, Turns, Needs, walk_key}
+use Rattle.dh_imports.specs.Walk.{Walked, Ready, Fails, Turns, Needs, walk_key}
 use Rattle.dh_demand.specs.declared.scans.Edge.{Edge}
 use Rattle.dh_demand.specs.declared.ends.Next.{Next}
 use Rattle.dh_demand.specs.declared.ends.Next.TheVariants as next

@@ -5,7 +5,7 @@ use Rattle.dh_syntax.specs.declared.locations.Loc.{Loc}
 use Rattle.dh_syntax.specs.declared.locations.Mode.TheVariants.{Code}
 use Rattle.dh_syntax.specs.Expressions.Tree.{Row as Parts, Leaf, Node, end, kid, Name, Var, Term}
 use Rattle.dh_syntax.specs.Imports.Locations.{sane}
-use Rattle.dh_syntax.specs.Imports.Walk.{Form, importing, choosing, other, form_of, keys_of}
+use Rattle.dh_imports.specs.Walk.{Form, importing, choosing, other, form_of, keys_of}
 use Rattle.dh_demand.specs.declared.scans.Edge.{Edge}
 use Rattle.dh_demand.specs.Results.{Row, number_of}
 

@@ -1,7 +1,7 @@
 -- The wants of a walk, as marks of the numbers of keys.
 use Rattle.std.specs.Prelude.{◌≡◌, ◌⊎◌, ◌<◌, ℕ, Bool, true, false, List, length, slice_index_or, Some, All}
 use Rattle.dh_syntax.specs.declared.locations.Key.{Key}
-use Rattle.dh_syntax.specs.Imports.Machine.{IsAmong}
+use Rattle.dh_imports.specs.Machine.{IsAmong}
 use Rattle.dh_demand.specs.declared.scans.Edge.{Edge}
 use Rattle.dh_demand.specs.Results.{Row, number_of}
 

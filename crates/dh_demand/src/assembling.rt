@@ -6,7 +6,7 @@ ghost use Rattle.dh_syntax.specs.declared.locations.Key.{Key};
 ghost use Rattle.dh_syntax.specs.declared.locations.Loc.{Loc};
 ghost use Rattle.dh_syntax.specs.Expressions.Bridge.{term, row_of};
 ghost use Rattle.dh_syntax.specs.Expressions.Tree.{Term};
-ghost use Rattle.dh_syntax.specs.Imports.Walk.{in_order, walk, walk_key, walks, keys_of, keys_of_row};
+ghost use Rattle.dh_imports.specs.Walk.{in_order, walk, walk_key, walks, keys_of, keys_of_row};
 ghost use Rattle.dh_demand.specs.Results.{ask_of};
 ghost use Rattle.dh_demand.specs.Scans.{IsEdge, Begins, AreInside, text_key, imports, imports_of_parts};
 ghost use Rattle.dh_demand.specs.Values.{IsReady, IsReadySomewhere};
@@ -16,7 +16,8 @@ use crate::parts::{Part, node_part};
 use crate::results::Results;
 use crate::scans::{Edge, Scan};
 use crate::skips::{skip, skip_kids};
-use dh_syntax::{Expr, Kid, Kids, Label, Many, Op, Outcome, copy, copy_name};
+use dh_imports::Outcome;
+use dh_syntax::{Expr, Kid, Kids, Label, Many, Op, copy, copy_name};
 use std::alloc::{AllocError, Global};
 
 /// The text with each value for its import, and for `l ? r` the side that was taken ("Import resolution").

@@ -7,7 +7,7 @@ ghost use Rattle.dh_syntax.specs.declared.locations.Loc.{Loc};
 ghost use Rattle.dh_syntax.specs.Expressions.Bridge.{term, row_of};
 ghost use Rattle.dh_syntax.specs.Expressions.SameTree.{term_eq};
 ghost use Rattle.dh_syntax.specs.Expressions.Tree.{Term};
-ghost use Rattle.dh_syntax.specs.Imports.Walk.{in_order, walk, walk_key, walks, keys_of, keys_of_row};
+ghost use Rattle.dh_imports.specs.Walk.{in_order, walk, walk_key, walks, keys_of, keys_of_row};
 ghost use Rattle.dh_demand.specs.Results.{ask_of};
 ghost use Rattle.dh_demand.specs.Scans.{IsEdge, Begins, AreInside, text_key, imports, imports_of_parts};
 ghost use Rattle.dh_demand.specs.Values.{IsReady, IsReadySomewhere};
@@ -18,7 +18,8 @@ use crate::parts::{Part, node_part};
 use crate::results::Results;
 use crate::scans::{Edge, Scan};
 use crate::skips::{skip, skip_kids};
-use dh_syntax::{Expr, Kid, Kids, Op, Outcome};
+use dh_imports::Outcome;
+use dh_syntax::{Expr, Kid, Kids, Op};
 use dh_terms::{is_same_binder, is_same_expr, is_same_op};
 
 /// Whether an expression is the value of a text: the text with each value for its import, and for `l ? r` the side that was

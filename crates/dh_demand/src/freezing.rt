@@ -4,9 +4,9 @@ ghost use Rattle.std.specs.Prelude.{◌≡◌, ◌≤◌, ◌<◌, ◌&&◌, ◌
 ghost use Rattle.dh_syntax.specs.declared.locations.Import.{Import};
 ghost use Rattle.dh_syntax.specs.declared.locations.Key.{Key};
 ghost use Rattle.dh_syntax.specs.Expressions.Bridge.{term, row_of};
-ghost use Rattle.dh_syntax.specs.Imports.Freezing.{digest_behind, digests_behind, digests_behind_row, goes_on, takes_content};
+ghost use Rattle.dh_imports.specs.Freezing.{digest_behind, digests_behind, digests_behind_row, goes_on, takes_content};
 ghost use Rattle.dh_syntax.specs.Imports.Keys.{chained};
-ghost use Rattle.dh_syntax.specs.Imports.Walk.{Walked, choosing, other, in_order, walk, walk_key, walks, keys_of, keys_of_row};
+ghost use Rattle.dh_imports.specs.Walk.{Walked, choosing, other, in_order, walk, walk_key, walks, keys_of, keys_of_row};
 ghost use Rattle.dh_demand.specs.Digests.{digest_at, digests_at, HasValue, HaveValues};
 ghost use Rattle.dh_demand.specs.Results.{Row, ask_of};
 ghost use Rattle.dh_demand.specs.Scans.{Begins, AreInside, Fits, IsEdge, imports, imports_of_parts};

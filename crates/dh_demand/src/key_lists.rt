@@ -4,7 +4,7 @@ ghost use Rattle.std.specs.Prelude.{◌≡◌, ◌++◌, IfOk, OnOk};
 ghost use Rattle.std.specs.Option.{option_copied};
 ghost use Rattle.dh_syntax.specs.Expressions.Bridge.{term, row_of};
 ghost use Rattle.dh_syntax.specs.Imports.Keys.{chained};
-ghost use Rattle.dh_syntax.specs.Imports.Walk.{form_of, keys_of, keys_of_form, keys_of_row};
+ghost use Rattle.dh_imports.specs.Walk.{form_of, keys_of, keys_of_form, keys_of_row};
 ghost use Rattle.dh_demand.specs.Inside.Parts.{import_of_form};
 
 use dh_paths::chain;

@@ -4,7 +4,7 @@ ghost use Rattle.std.specs.Prelude.{◌≡◌, List, ◌∷◌, length, drop};
 ghost use Rattle.std.specs.Option.{option_copied};
 ghost use Rattle.dh_syntax.specs.Expressions.Bridge.{term, row_of};
 ghost use Rattle.dh_syntax.specs.declared.locations.Key.{Key};
-ghost use Rattle.dh_syntax.specs.Imports.Walk.{Walked, in_order, walk, walk_key, walks, keys_of, keys_of_row};
+ghost use Rattle.dh_imports.specs.Walk.{Walked, in_order, walk, walk_key, walks, keys_of, keys_of_row};
 ghost use Rattle.dh_demand.specs.Results.{ask_of};
 ghost use Rattle.dh_demand.specs.Scans.{Begins, AreInside, Fits, text_key, imports, imports_of_parts};
 ghost use Rattle.dh_demand.specs.Nexts.{IsNext, IsInside};

@@ -1,6 +1,7 @@
 //! What is known of keys.
 
-use dh_syntax::{Key, Outcome};
+use dh_imports::Outcome;
+use dh_syntax::Key;
 
 /// The keys of a run by their numbers, each with its outcome once it has one.
 pub trait Results {

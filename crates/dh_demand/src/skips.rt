@@ -3,7 +3,7 @@
 ghost use Rattle.std.specs.Prelude.{◌≡◌, drop};
 ghost use Rattle.dh_syntax.specs.Expressions.Bridge.{term, row_of};
 ghost use Rattle.dh_demand.specs.Scans.{imports, imports_of_parts, own_imports};
-ghost use Rattle.dh_syntax.specs.Imports.Walk.{form_of};
+ghost use Rattle.dh_imports.specs.Walk.{form_of};
 
 use crate::parts::{Part, node_part};
 use crate::scans::Edge;

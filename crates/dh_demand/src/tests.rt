@@ -1,8 +1,9 @@
 //! Tests: the keys of a text's imports, and the walk of a text without imports and of a text that is one import.
 
 use super::*;
+use dh_imports::Outcome;
 use dh_paths::loc_text;
-use dh_syntax::{BoxedImport, Comps, Expr, Import, Key, Kid, Loc, Many, Mode, Op, Outcome, Piece};
+use dh_syntax::{BoxedImport, Comps, Expr, Import, Key, Kid, Loc, Many, Mode, Op, Piece};
 use std::alloc::{AllocError, Global};
 use std::test::Fail;
 

@@ -3,8 +3,8 @@
 ghost use Rattle.std.specs.Prelude.{◌≡◌, ◌++◌, List, length, IfOk, OnOk};
 ghost use Rattle.std.specs.Option.{option_copied};
 ghost use Rattle.dh_syntax.specs.Expressions.Bridge.{term, row_of};
-ghost use Rattle.dh_syntax.specs.Imports.TextPaths.{text_path, text_paths, way_into, way_on};
-ghost use Rattle.dh_syntax.specs.Imports.Walk.{choosing, keys_of, keys_of_row, walks};
+ghost use Rattle.dh_imports.specs.TextPaths.{text_path, text_paths, way_into, way_on};
+ghost use Rattle.dh_imports.specs.Walk.{choosing, keys_of, keys_of_row, walks};
 ghost use Rattle.dh_demand.specs.Results.{ask_of};
 ghost use Rattle.dh_demand.specs.Scans.{Begins, AreInside, Fits, text_key};
 

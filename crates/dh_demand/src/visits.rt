@@ -5,8 +5,8 @@ ghost use Rattle.std.specs.Option.{option_copied};
 ghost use Rattle.dh_syntax.specs.declared.locations.Key.{Key};
 ghost use Rattle.dh_syntax.specs.declared.locations.Loc.{Loc};
 ghost use Rattle.dh_syntax.specs.Expressions.Tree.{Term};
-ghost use Rattle.dh_syntax.specs.Imports.Outcomes.{may_go_on};
-ghost use Rattle.dh_syntax.specs.Imports.Walk.{Walked, allowed, walk_key};
+ghost use Rattle.dh_imports.specs.Outcomes.{may_go_on};
+ghost use Rattle.dh_imports.specs.Walk.{Walked, allowed, walk_key};
 ghost use Rattle.dh_demand.specs.Digests.{HasValue};
 ghost use Rattle.dh_demand.specs.Results.{Row, ask_of};
 ghost use Rattle.dh_demand.specs.Scans.{IsEdge, text_key};
@@ -16,8 +16,9 @@ ghost use Rattle.dh_demand.specs.Inside.Going.{goes_on, has_passing_fault};
 use crate::ends::Next;
 use crate::results::Results;
 use crate::scans::Edge;
+use dh_imports::{Origin, Outcome, Why};
 use dh_paths::cors;
-use dh_syntax::{Key, Loc, Origin, Outcome, Why};
+use dh_syntax::{Key, Loc};
 
 /// What a walk in a text at this parent does at an import.
 pub(crate) fn visit<R: Results>(edge: Edge, parent: Option<&Loc>, results: &R) -> Next

@@ -4,7 +4,7 @@ ghost use Rattle.std.specs.Prelude.{◌≡◌, List, ◌∷◌, Bool, length, dr
 ghost use Rattle.std.specs.Option.{option_copied};
 ghost use Rattle.dh_syntax.specs.declared.locations.Key.{Key};
 ghost use Rattle.dh_syntax.specs.Expressions.Bridge.{term, row_of};
-ghost use Rattle.dh_syntax.specs.Imports.Walk.{Course, then_by, all_courses, course, course_key, courses, keys_of, keys_of_row, wants};
+ghost use Rattle.dh_imports.specs.Walk.{Course, then_by, all_courses, course, course_key, courses, keys_of, keys_of_row, wants};
 ghost use Rattle.dh_demand.specs.Results.{ask_of};
 ghost use Rattle.dh_demand.specs.Scans.{Begins, AreInside, Fits, text_key, imports, imports_of_parts};
 ghost use Rattle.dh_demand.specs.Nexts.{IsInside};

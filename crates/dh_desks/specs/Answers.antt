@@ -22,5 +22,6 @@ abbrev pub DecidedBy : Place → Result Got DeskError → Type 0
 DecidedBy (at.File path) r = ⊤
 DecidedBy (at.Variable name) r = ⊤
 DecidedBy at.Nowhere r = AnswersOnly r Absent
-DecidedBy at.Web r = AnswersOnly r (Broken 0)
+DecidedBy (at.Web u) r = ⊤
+DecidedBy at.Barred r = AnswersOnly r (Broken 0)
 DecidedBy at.Untold r = IsErr r

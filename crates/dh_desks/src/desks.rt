@@ -13,11 +13,13 @@ use crate::places::{Place, entry_file, place_of};
 use crate::reading::{file_text, variable_text};
 use dh_ports::{Desk, DeskError, Got, Silent};
 use dh_syntax::{Bytes, Digest, Loc, MOST_WORKERS};
+use dh_web::web_text;
 use std::alloc::{AllocError, Global};
 use std::env::Env;
+use std::net::Net;
 use std::rt::Files;
 
-/// A desk over files, the environment and the folder of the cache. It tells nothing of the outside.
+/// A desk over files, the environment, plain HTTP and the folder of the cache. It tells nothing of the outside.
 #[derive(Drop)]
 pub struct SystemDesk<'a, R> {
     rt: R,
@@ -97,7 +99,7 @@ pub fn make_desks<'a, R: Copy>(
 }
 
 /// What is found at a location.
-fn found_at<R: Files + Env>(
+fn found_at<R: Files + Env + Net>(
     rt: &R,
     alloc: Global,
     home: &Folder,
@@ -110,7 +112,8 @@ fn found_at<R: Files + Env>(
         Place::File(path) => file_text(rt, alloc, path.as_str()),
         Place::Variable(name) => variable_text(rt, alloc, name.as_str()),
         Place::Nowhere => Ok(Got::Absent),
-        Place::Web => Ok(Got::Broken(0)),
+        Place::Web(url) => web_text(rt, alloc, &url),
+        Place::Barred => Ok(Got::Broken(0)),
         Place::Untold => Err(DeskError::Failed),
     }
 }
@@ -152,7 +155,7 @@ fn keep_at<R: Files>(
     }
 }
 
-impl<R: Files + Env> Desk<Silent> for SystemDesk<'_, R> {
+impl<R: Files + Env + Net> Desk<Silent> for SystemDesk<'_, R> {
     ghost faults = { λ d. d.failed };
 
     ghost asked = { λ d. d.asked };

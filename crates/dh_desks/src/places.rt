@@ -5,7 +5,7 @@ ghost use Rattle.dh_syntax.specs.Imports.Locations.{slashed};
 ghost use Rattle.dh_desks.specs.Places as spec;
 
 use crate::folders::{Folder, below};
-use dh_syntax::{Comps, Digest, Loc, Piece};
+use dh_syntax::{Comps, Digest, Loc, Piece, Url};
 use std::alloc::{AllocError, Global};
 
 /// Where a location is looked for.
@@ -17,8 +17,10 @@ pub(crate) enum Place {
     Variable(Piece),
     /// Nowhere, since there is nothing.
     Nowhere,
-    /// On the network.
-    Web,
+    /// On the network, where this URL says.
+    Web(Url),
+    /// On the network, where nothing is fetched.
+    Barred,
     /// In a folder whose path cannot be told.
     Untold,
 }
@@ -69,7 +71,8 @@ pub(crate) fn place_of(alloc: Global, home: &Folder, loc: &Loc) -> Result<Place,
         Loc::Here(comps) => Ok(Place::File(path_from(alloc, ".", comps)?)),
         Loc::Parent(comps) => Ok(Place::File(path_from(alloc, "..", comps)?)),
         Loc::Home(comps) => in_home(alloc, home, comps),
-        Loc::Http(_) | Loc::Https(_) => Ok(Place::Web),
+        Loc::Http(url) => Ok(Place::Web(url.copied(alloc)?)),
+        Loc::Https(_) => Ok(Place::Barred),
         Loc::Env(name) => Ok(Place::Variable(name.copied(alloc)?)),
         Loc::Missing => Ok(Place::Nowhere),
     }

@@ -15,9 +15,12 @@ use outside::{
     holds, new_folder, path_in, told, write, write_long,
 };
 use std::alloc::{AllocError, Global};
+use std::io::{Read, Write};
+use std::net::TcpListener;
 use std::os::unix::fs::symlink;
 use std::sync::atomic::{AtomicU64, Ordering};
 use std::test::Fail;
+use std::thread::Threads;
 use std::{env, fs, io, thread};
 
 const NO_FOLDERS: Folders = Folders {
@@ -166,9 +169,10 @@ fn variables_are_texts(rt: HostRuntime) -> Result<(), Fail> {
     Ok(())
 }
 
-fn url(alloc: Global) -> Result<Url, AllocError> {
+/// The file `a` at a port of this machine.
+fn url(alloc: Global, port: u16) -> Result<Url, AllocError> {
     Ok(Url {
-        host: Piece::new(alloc, "localhost")?,
+        host: Piece::of(format!(in alloc; "localhost:{port}")?),
         comps: comps(alloc, "a")?,
         query: None,
     })
@@ -178,9 +182,10 @@ fn url(alloc: Global) -> Result<Url, AllocError> {
 fn places_without_a_file(rt: HostRuntime) -> Result<(), Fail> {
     let folders = NO_FOLDERS;
     let mut desk = SystemDesk::new(rt, rt.alloc(), &folders);
-    let http = Loc::Http(url(rt.alloc())?);
-    assert!(rt; finds(&mut desk, rt.alloc(), &http, b"(broken)"));
-    let https = Loc::Https(url(rt.alloc())?);
+    // Nobody listens at port 1.
+    let http = Loc::Http(url(rt.alloc(), 1)?);
+    assert!(rt; finds(&mut desk, rt.alloc(), &http, b"(failed)"));
+    let https = Loc::Https(url(rt.alloc(), 1)?);
     assert!(rt; finds(&mut desk, rt.alloc(), &https, b"(broken)"));
     assert!(rt; finds(&mut desk, rt.alloc(), &Loc::Missing, b"(absent)"));
     // HOME is unset.
@@ -189,7 +194,73 @@ fn places_without_a_file(rt: HostRuntime) -> Result<(), Fail> {
     let unset = Loc::Env(Piece::new(rt.alloc(), "DH_DESKS_IS_UNSET")?);
     assert!(rt; finds(&mut desk, rt.alloc(), &unset, b"(absent)"));
     assert_eq!(rt; desk.asked_count(), 5);
-    assert_eq!(rt; desk.fault_count(), 0);
+    assert_eq!(rt; desk.fault_count(), 1);
+    Ok(())
+}
+
+/// Answers one request on each of so many connections with the text `42`, and none before all of them are asked.
+fn serve(listener: &TcpListener, alloc: Global, count: usize) -> io::Result<()> {
+    let mut streams = Vec::new(alloc);
+    for _ in 0..count {
+        let (mut stream, _) = listener.accept()?;
+        let mut request = [0u8; 512];
+        let _ = stream.read(&mut request)?;
+        streams.push(stream)?;
+    }
+    for stream in streams.as_mut_slice() {
+        stream.write_all(b"HTTP/1.1 200 OK\r\nContent-Length: 2\r\n\r\n42")?;
+    }
+    Ok(())
+}
+
+/// Fetches a location once by each desk, all at once, and counts those that do not find `42`.
+fn fetch_by_each<R: Threads + Sync, D: Desk<Silent> + Send>(
+    rt: &R,
+    alloc: Global,
+    desks: &mut [D],
+    loc: &Loc,
+) -> u64 {
+    let wrong = AtomicU64::new(0);
+    thread::for_each_mut(
+        rt,
+        desks,
+        8,
+        &|_, desk| {
+            if !finds(desk, alloc, loc, b"42") {
+                wrong.fetch_add(1, Ordering::SeqCst);
+            }
+        },
+    );
+    wrong.load(Ordering::SeqCst)
+}
+
+/// Serves desks that fetch a location all at once. Answers whether each was served, and how many did not find `42`.
+fn serve_each<'a, R: Threads + Sync, D: Desk<Silent> + Send>(
+    rt: &'a R,
+    alloc: Global,
+    listener: &'a TcpListener,
+    desks: &'a mut [D],
+    loc: &'a Loc,
+) -> (bool, u64) {
+    let count = desks.len();
+    thread::join(
+        rt,
+        || serve(listener, alloc, count).is_ok(),
+        || fetch_by_each(rt, alloc, desks, loc),
+    )
+}
+
+#[test]
+fn desks_fetch_side_by_side(rt: HostRuntime) -> Result<(), Fail> {
+    let listener = TcpListener::bind(&rt, "127.0.0.1:0")?;
+    let loc = Loc::Http(url(rt.alloc(), listener.local_addr()?.port())?);
+    let folders = NO_FOLDERS;
+    for count in [1, 8] {
+        let mut desks = some_desks(rt, rt.alloc(), &folders, count)?;
+        let (served, wrong) = serve_each(&rt, rt.alloc(), &listener, desks.as_mut_slice(), &loc);
+        assert!(rt; served);
+        assert_eq!(rt; wrong, 0);
+    }
     Ok(())
 }
 

@@ -5,10 +5,10 @@ ghost use Rattle.sha2.specs.Sha256.{sha256};
 ghost use Rattle.dh_syntax.specs.Expressions.Arity.{IsWellFormed};
 ghost use Rattle.dh_syntax.specs.Expressions.Bridge.{term};
 ghost use Rattle.dh_syntax.specs.Expressions.Nesting.{nesting};
-ghost use Rattle.dh_syntax.specs.Imports.LastStep.{digest_of};
+ghost use Rattle.dh_syntax.specs.Bytes.Digests.{digest_of};
 ghost use Rattle.dh_syntax.specs.Names.Indices.{IndicesBelow};
-ghost use Rattle.dh_syntax.specs.Text.Printed.{digest_text};
-ghost use Rattle.dh_digest.specs.Digits.{digits_of, hexadecimal};
+ghost use Rattle.dh_syntax.specs.Text.Printed.{digest_digits, digest_text};
+ghost use Rattle.dh_digest.specs.Digits.{hexadecimal};
 
 use dh_encode::encode;
 use dh_syntax::{Digest, Expr, Piece};
@@ -44,7 +44,7 @@ fn hexadecimal(alloc: Global, bytes: &[u8]) -> Result<String, AllocError>
 
 /// The 64 lower-case digits of a digest, as they stand behind `sha256:`.
 pub fn digest_text(alloc: Global, d: &Digest) -> Result<Piece, AllocError>
-    ensures digits { IfOk result (λ text. text ≡ digits_of d.now) }
+    ensures digits { IfOk result (λ text. text ≡ digest_digits d.now) }
     ensures printed { IfOk result (λ text. codes " sha256:" ++ text ≡ digest_text (Some d.now)) }
 {
     let text = hexadecimal(alloc, d.0.as_slice())?;

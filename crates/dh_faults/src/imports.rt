@@ -3,12 +3,15 @@
 ghost use Rattle.std.specs.Prelude.{◌≡◌, ◌++◌, Some, IfOk, OnOk, codes, string_bytes};
 ghost use Rattle.std.specs.Option.{option_copied};
 ghost use Rattle.dh_syntax.specs.Imports.Locations.{loc_text};
-ghost use Rattle.dh_syntax.specs.Text.Printed.{digest_text};
-ghost use Rattle.dh_syntax.specs.Command.ImportFaults.{in_item, differs_line, why_line, why_status, type_status};
+ghost use Rattle.dh_imports.specs.ImportFaults.{in_item, differs_line, why_line};
+ghost use Rattle.dh_syntax.specs.Text.Printed.{digest_digits};
+ghost use Rattle.dh_command.specs.Statuses.{why_status, type_status};
 
+use dh_command::Status;
 use dh_digest::digest_text;
+use dh_imports::Why;
 use dh_paths::loc_text;
-use dh_syntax::{Digest, Key, Loc, Status, TypeFault, Why};
+use dh_syntax::{Digest, Key, Loc, TypeFault};
 use std::alloc::{AllocError, Global};
 
 /// The line of a fault of an item at a location.
@@ -33,12 +36,11 @@ pub fn in_item(alloc: Global, at: Option<&Key>, text: &str) -> Result<String, Al
     }
 }
 
-/// Adds a digest as it stands behind an import.
-fn push_digest(alloc: Global, line: &mut String, digest: &Digest) -> Result<(), AllocError>
-    ensures { OnOk result (string_bytes line.new ≡ string_bytes line.old ++ digest_text (Some digest.now)) }
+/// Adds the digits of a digest.
+fn push_digits(alloc: Global, line: &mut String, digest: &Digest) -> Result<(), AllocError>
+    ensures { OnOk result (string_bytes line.new ≡ string_bytes line.old ++ digest_digits digest.now) }
 {
     let digits = digest_text(alloc, digest)?;
-    line.push_str(" sha256:")?;
     line.push_str(digits.as_str())
 }
 
@@ -46,10 +48,10 @@ fn push_digest(alloc: Global, line: &mut String, digest: &Digest) -> Result<(), 
 fn differing(alloc: Global, wanted: &Digest, got: &Digest) -> Result<String, AllocError>
     ensures { IfOk result (λ line. string_bytes line ≡ differs_line wanted.now got.now) }
 {
-    let mut line = String::from_str(alloc, "digest differs: wanted")?;
-    push_digest(alloc, &mut line, wanted)?;
-    line.push_str(" got")?;
-    push_digest(alloc, &mut line, got)?;
+    let mut line = String::from_str(alloc, "digest differs: wanted ")?;
+    push_digits(alloc, &mut line, wanted)?;
+    line.push_str(" got ")?;
+    push_digits(alloc, &mut line, got)?;
     Ok(line)
 }
 

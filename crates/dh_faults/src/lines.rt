@@ -1,7 +1,7 @@
 //! The line of a type fault with its place.
 
 ghost use Rattle.std.specs.Prelude.{Some};
-ghost use Rattle.dh_syntax.specs.Command.PlacedFaults.{placed_line};
+ghost use Rattle.dh_command.specs.PlacedFaults.{placed_line};
 
 use crate::places::Place;
 use dh_syntax::Ill;

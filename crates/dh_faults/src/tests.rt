@@ -1,10 +1,10 @@
 //! Places of nodes in texts, with stretches written by hand; lines and statuses of the faults of imports.
 
 use crate::{Place, Placed, in_item, place_of, why_status, why_text};
+use dh_command::Status;
+use dh_imports::Why;
 use dh_places::Span;
-use dh_syntax::{
-    Digest, Ill, Key, Loc, Many, Mode, NormFault, ParseFault, Piece, Status, TypeFault, Why,
-};
+use dh_syntax::{Digest, Ill, Key, Loc, Many, Mode, NormFault, ParseFault, Piece, TypeFault};
 use std::alloc::{AllocError, Global};
 use std::test::Fail;
 
@@ -98,7 +98,7 @@ fn reasons_have_a_line_and_a_status(rt: HostRuntime) -> Result<(), Fail> {
                 wanted: Digest([1; 32]),
                 got: Digest([0xFE; 32]),
             },
-            "digest differs: wanted sha256:0101010101010101010101010101010101010101010101010101010101010101 got sha256:fefefefefefefefefefefefefefefefefefefefefefefefefefefefefefefefe",
+            "digest differs: wanted 0101010101010101010101010101010101010101010101010101010101010101 got fefefefefefefefefefefefefefefefefefefefefefefefefefefefefefefefe",
             Status::Import,
         ),
         (

@@ -2,11 +2,11 @@
 use Rattle.std.proofs.Common.{◌≡◌, ℕ, ◌-◌, List, ◌∷◌, ◌++◌, take, drop, Some, sym, ◌∙◌, ap, subst, append_assoc}
 use Rattle.std.specs.Prelude.{◌↔◌, true, Option}
 use Rattle.dh_syntax.specs.declared.locations.Digest.{Digest}
-use Rattle.dh_syntax.specs.Command.FrozenTexts.{Ascend, Insertion, IsFrozenText, side_by_side, with_digests}
+use Rattle.dh_imports.specs.FrozenTexts.{Ascend, Insertion, IsFrozenText, side_by_side, with_digests}
 use Rattle.dh_syntax.specs.Expressions.Tree.{Term}
-use Rattle.dh_syntax.specs.Imports.Freezing.{digests_behind}
-use Rattle.dh_syntax.specs.Imports.Machine.{IsAmong}
-use Rattle.dh_syntax.specs.Imports.Walk.{Ask}
+use Rattle.dh_imports.specs.Freezing.{digests_behind}
+use Rattle.dh_imports.specs.Machine.{IsAmong}
+use Rattle.dh_imports.specs.Walk.{Ask}
 use Rattle.dh_syntax.specs.Text.Offsets.{SpellsWith}
 use Rattle.dh_syntax.specs.Text.Printed.{digest_text}
 use Rattle.dh_freeze.specs.declared.places.Place.{Place}

@@ -7,8 +7,8 @@ use Rattle.std.proofs.lemmas.List.Elements.{All-nil, All-cons, All-head, All-tai
 use Rattle.std.proofs.lemmas.List.Sorted.{All-permutation, IsPermutation-sym, sum_by-IsPermutation, IsNonDecreasingBy-drop}
 use Rattle.std.proofs.lemmas.List.Sums.{sum_by-cons}
 use Rattle.dh_syntax.specs.declared.locations.Digest.{Digest}
-use Rattle.dh_syntax.specs.Command.FrozenTexts.{Insertion, Ascend, side_by_side}
-use Rattle.dh_syntax.specs.Imports.Machine.{IsAmong}
+use Rattle.dh_imports.specs.FrozenTexts.{Insertion, Ascend, side_by_side}
+use Rattle.dh_imports.specs.Machine.{IsAmong}
 use Rattle.dh_freeze.specs.declared.places.Place.{Place}
 use Rattle.dh_freeze.specs.Distinct.{times, AreDistinct}
 use Rattle.dh_freeze.specs.Insertions.{insertion_of, insertions}

@@ -1,6 +1,6 @@
 -- Places as insertions of digests into a text.
 use Rattle.std.specs.Prelude.{List, map}
-use Rattle.dh_syntax.specs.Command.FrozenTexts.{Insertion}
+use Rattle.dh_imports.specs.FrozenTexts.{Insertion}
 use Rattle.dh_freeze.specs.declared.places.Place.{Place}
 
 abbrev pub insertion_of : Place → Insertion

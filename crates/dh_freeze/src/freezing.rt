@@ -1,10 +1,10 @@
 //! The text with its digests.
 
 ghost use Rattle.std.specs.Prelude.{◌≡◌, ◌++◌, true, Some, take, drop, ◌-◌, IfOk, OnOk};
-ghost use Rattle.dh_syntax.specs.Command.FrozenTexts.{IsFrozenText, with_digests};
+ghost use Rattle.dh_imports.specs.FrozenTexts.{IsFrozenText, with_digests};
 ghost use Rattle.dh_syntax.specs.Expressions.Tree.{Term};
-ghost use Rattle.dh_syntax.specs.Imports.Freezing.{digests_behind};
-ghost use Rattle.dh_syntax.specs.Imports.Walk.{Ask};
+ghost use Rattle.dh_imports.specs.Freezing.{digests_behind};
+ghost use Rattle.dh_imports.specs.Walk.{Ask};
 ghost use Rattle.dh_syntax.specs.Text.Offsets.{SpellsWith};
 ghost use Rattle.dh_syntax.specs.Text.Printed.{digest_text};
 ghost use Rattle.dh_freeze.specs.Insertions.{insertions};

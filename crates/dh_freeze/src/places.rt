@@ -1,8 +1,8 @@
 //! Where digests are inserted.
 
 ghost use Rattle.std.specs.Prelude.{◌≡◌, ◌↔◌, ◌++◌, Some, IfOk, OnOk};
-ghost use Rattle.dh_syntax.specs.Command.FrozenTexts.{Ascend, Insertion, side_by_side};
-ghost use Rattle.dh_syntax.specs.Imports.Machine.{IsAmong};
+ghost use Rattle.dh_imports.specs.FrozenTexts.{Ascend, Insertion, side_by_side};
+ghost use Rattle.dh_imports.specs.Machine.{IsAmong};
 ghost use Rattle.dh_freeze.specs.Distinct.{AreDistinct};
 ghost use Rattle.dh_freeze.specs.Insertions.{insertions};
 ghost use Rattle.dh_freeze.specs.Inside.Pairs.{paired, place_at};

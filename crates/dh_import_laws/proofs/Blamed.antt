@@ -4,15 +4,15 @@ use Rattle.std.proofs.Common.{ap, sym, ◌∙◌, subst}
 use Rattle.dh_syntax.specs.declared.faults.Ill.{Ill}
 use Rattle.dh_syntax.specs.declared.faults.TypeFault.TheVariants as type
 use Rattle.dh_syntax.specs.declared.locations.Key.{Key}
-use Rattle.dh_syntax.specs.declared.outcomes.Blame.{Blame}
-use Rattle.dh_syntax.specs.declared.outcomes.Why.{Why}
-use Rattle.dh_syntax.specs.declared.outcomes.Why.TheVariants.{Parse, Typing, Norm, Absent, Missing, Broken, Https, Failed, Differs, Insane, Cors, Cycle, TooMany}
-use Rattle.dh_syntax.specs.Command.ImportFaults.{ill_of}
+use Rattle.dh_imports.specs.declared.outcomes.Blame.{Blame}
+use Rattle.dh_imports.specs.declared.outcomes.Why.{Why}
+use Rattle.dh_imports.specs.declared.outcomes.Why.TheVariants.{Parse, Typing, Norm, Absent, Missing, Broken, Https, Failed, Differs, Insane, Cors, Cycle, TooMany}
+use Rattle.dh_imports.specs.ImportFaults.{ill_of}
 use Rattle.dh_syntax.specs.Expressions.Tree.{Term}
-use Rattle.dh_syntax.specs.Imports.Machine.{Event, Lawful, after_all}
-use Rattle.dh_syntax.specs.Imports.Records.{Record, limit_at, IsLimitOf}
-use Rattle.dh_syntax.specs.Imports.Resolver.{Walks}
-use Rattle.dh_syntax.specs.Imports.Walk.{Ready, walk}
+use Rattle.dh_imports.specs.Machine.{Event, Lawful, after_all}
+use Rattle.dh_imports.specs.Records.{Record, limit_at, IsLimitOf}
+use Rattle.dh_imports.specs.Resolver.{Walks}
+use Rattle.dh_imports.specs.Walk.{Ready, walk}
 use Rattle.dh_syntax.specs.Typing.NamedTyping.{IsIll}
 use Rattle.dh_laws.proofs.KeyOrder.{none-some, some-equal}
 use Rattle.dh_import_laws.specs.Blames.{StandsIn, FaultsStand, RootFaultsStand}

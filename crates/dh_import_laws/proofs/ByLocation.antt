@@ -3,15 +3,15 @@ use Rattle.std.specs.Prelude.{◌≡◌, Bool, true, false, if◌then◌else◌,
 use Rattle.std.proofs.Common.{ap, sym, ◌∙◌, subst}
 use Rattle.std.proofs.Math.Path.{fun_ext}
 use Rattle.dh_syntax.specs.declared.locations.Key.{Key}
-use Rattle.dh_syntax.specs.declared.outcomes.Blame.{Blame}
-use Rattle.dh_syntax.specs.declared.outcomes.Origin.{Origin}
-use Rattle.dh_syntax.specs.declared.outcomes.Origin.TheVariants.{Fetched, Cached, Made}
-use Rattle.dh_syntax.specs.declared.outcomes.Why.TheVariants.{Cors, Insane}
+use Rattle.dh_imports.specs.declared.outcomes.Blame.{Blame}
+use Rattle.dh_imports.specs.declared.outcomes.Origin.{Origin}
+use Rattle.dh_imports.specs.declared.outcomes.Origin.TheVariants.{Fetched, Cached, Made}
+use Rattle.dh_imports.specs.declared.outcomes.Why.TheVariants.{Cors, Insane}
 use Rattle.dh_syntax.specs.Expressions.Tree.{Row, Leaf, Node, end, kid, Name, Var, Term}
 use Rattle.dh_syntax.specs.Imports.Locations.{sane, cors}
-use Rattle.dh_syntax.specs.Imports.Outcomes.{Outcome, Good, Bad, Loop, may_go_on}
-use Rattle.dh_syntax.specs.Imports.TextPaths.{to_side, way_on, way_into, text_path, text_paths}
-use Rattle.dh_syntax.specs.Imports.Walk.{Ask, place, Form, importing, choosing, other, form_of, Walked, Ready, Fails, Turns, Needs, and_then, or_else, allowed, by_outcome, is_sane, walk_key, walk, walks}
+use Rattle.dh_imports.specs.Outcomes.{Outcome, Good, Bad, Loop, may_go_on}
+use Rattle.dh_imports.specs.TextPaths.{to_side, way_on, way_into, text_path, text_paths}
+use Rattle.dh_imports.specs.Walk.{Ask, place, Form, importing, choosing, other, form_of, Walked, Ready, Fails, Turns, Needs, and_then, or_else, allowed, by_outcome, is_sane, walk_key, walk, walks}
 use Rattle.dh_import_laws.specs.Paths.{ValuesByLocation, PathsByLocation}
 use Rattle.dh_import_laws.proofs.WalkPairs.{StepsKeep, walk-related}
 

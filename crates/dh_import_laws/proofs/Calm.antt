@@ -14,14 +14,15 @@ use Rattle.dh_syntax.specs.Expressions.SameTree.{digest_eq}
 use Rattle.dh_syntax.specs.Limits.{most_bytes}
 use Rattle.dh_syntax.specs.Expressions.Tree.{Term}
 use Rattle.dh_syntax.specs.Imports.Keys.{key_eq}
-use Rattle.dh_syntax.specs.Imports.LastStep as last
-use Rattle.dh_syntax.specs.Imports.LastStep.{Item, own, text_outcome, digest_of, compared, by_normal, by_type, last_step}
-use Rattle.dh_syntax.specs.declared.outcomes.Origin.{Origin}
-use Rattle.dh_syntax.specs.declared.outcomes.Why.{Why}
-use Rattle.dh_syntax.specs.Imports.Outcomes.{Outcome, Good, Bad, Loop}
-use Rattle.dh_syntax.specs.Imports.Records.{lookup, Record, limit_at}
-use Rattle.dh_syntax.specs.Imports.Resolver.{Stage, Lacks, Has, Meets, Waits, of_plan, stage, unless_limit, closed, ended}
-use Rattle.dh_syntax.specs.Imports.Walk.{Ask}
+use Rattle.dh_imports.specs.LastStep as last
+use Rattle.dh_imports.specs.LastStep.{Item, own, text_outcome, compared, by_normal, by_type, last_step}
+use Rattle.dh_syntax.specs.Bytes.Digests.{digest_of}
+use Rattle.dh_imports.specs.declared.outcomes.Origin.{Origin}
+use Rattle.dh_imports.specs.declared.outcomes.Why.{Why}
+use Rattle.dh_imports.specs.Outcomes.{Outcome, Good, Bad, Loop}
+use Rattle.dh_imports.specs.Records.{lookup, Record, limit_at}
+use Rattle.dh_imports.specs.Resolver.{Stage, Lacks, Has, Meets, Waits, of_plan, stage, unless_limit, closed, ended}
+use Rattle.dh_imports.specs.Walk.{Ask}
 use Rattle.dh_laws.proofs.KeyOrder.{bool-case, none-some, key_eq-true}
 use Rattle.dh_import_laws.proofs.Walks.{Knows}
 use Rattle.dh_import_laws.proofs.Grow.{longer-itself, OnWait, StageGrown, stage-grown, StageTold, stage-told}

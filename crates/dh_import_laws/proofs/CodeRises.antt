@@ -4,11 +4,11 @@ use Rattle.std.proofs.Common.{ap, ◌∙◌, arith, subst}
 use Rattle.dh_syntax.specs.declared.locations.Key.{Key}
 use Rattle.dh_syntax.specs.Normalising.Heads.{Answer, Found, Wide, Deep, Over, Whole, run}
 use Rattle.dh_syntax.specs.Typing.Inference.{Judgment, Has, Ill, IsWide, IsDeep, IsOver, IsOverAside, IsShallow}
-use Rattle.dh_syntax.specs.Imports.LastStep.{by_normal, by_type, code_outcome}
+use Rattle.dh_imports.specs.LastStep.{by_normal, by_type, code_outcome}
 use Rattle.dh_syntax.specs.Normalising.Named.{names}
 use Rattle.dh_syntax.specs.Typing.NamedTyping.{scopes, infer}
 use Rattle.dh_syntax.specs.Normalising.Normal.{endless}
-use Rattle.dh_syntax.specs.Imports.Outcomes.{Outcome}
+use Rattle.dh_imports.specs.Outcomes.{Outcome}
 use Rattle.dh_syntax.specs.Expressions.Tree.{Term}
 use Rattle.dh_syntax.specs.Typing.TypeRules.{Rule}
 use Rattle.dh_syntax.specs.Typing.Typing.{typing}

@@ -3,15 +3,15 @@ use Rattle.std.specs.Prelude.{◌≡◌, ℕ, ◌+◌, List, [], Option, Some, r
 use Rattle.std.proofs.Common.{ap, sym, ◌∙◌, arith, subst}
 use Rattle.dh_syntax.specs.declared.faults.TypeFault.TheVariants as type
 use Rattle.dh_syntax.specs.declared.locations.Key.{Key}
-use Rattle.dh_syntax.specs.declared.outcomes.Why.TheVariants.{Typing}
+use Rattle.dh_imports.specs.declared.outcomes.Why.TheVariants.{Typing}
 use Rattle.dh_syntax.specs.Normalising.Heads.{Answer, Found, Wide, Deep, Over, Whole, run}
 use Rattle.dh_syntax.specs.Typing.Inference.{Judgment, Has, Ill, IsWide, IsDeep, IsOver, IsOverAside, IsShallow}
-use Rattle.dh_syntax.specs.Imports.LastStep.{Code, own, by_normal, by_type, code_outcome, last_step}
+use Rattle.dh_imports.specs.LastStep.{Code, own, by_normal, by_type, code_outcome, last_step}
 use Rattle.dh_syntax.specs.Normalising.Named.{names}
 use Rattle.dh_syntax.specs.Typing.NamedTyping.{infer, Infers, IsIll}
 use Rattle.dh_syntax.specs.Normalising.Normal.{endless, HasNormalForm}
-use Rattle.dh_syntax.specs.Imports.Outcomes.{Outcome}
-use Rattle.dh_syntax.specs.Imports.Records.{IsTyped}
+use Rattle.dh_imports.specs.Outcomes.{Outcome}
+use Rattle.dh_imports.specs.Records.{IsTyped}
 use Rattle.dh_syntax.specs.Expressions.Tree.{Term}
 use Rattle.dh_syntax.specs.Typing.TypeRules.{Rule}
 use Rattle.dh_import_laws.specs.ImportLaws.{ComesOf, normal, ill, CodeComesOf, CodeComes, OneOutcomeOfCode}

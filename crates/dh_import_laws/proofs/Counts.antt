@@ -2,14 +2,14 @@
 use Rattle.std.specs.Prelude.{◌≡◌, ◌⊎◌, ℕ, suc, ◌≤◌, ◌<◌, nat_lt, Bool, true, false, ◌||◌, if◌then◌else◌, List, [], ◌∷◌, ◌++◌, length, Option, Some, None, refl}
 use Rattle.std.proofs.Common.{ap, sym, ◌∙◌, subst, inl, inr, arith, le_trans, le_refl, ltb-true, lt-ltb}
 use Rattle.dh_syntax.specs.declared.locations.Key.{Key}
-use Rattle.dh_syntax.specs.declared.outcomes.Why.{Why}
+use Rattle.dh_imports.specs.declared.outcomes.Why.{Why}
 use Rattle.dh_import_laws.specs.ImportLaws.{TooManyStay}
 use Rattle.dh_syntax.specs.Imports.Keys.{bare, key_eq}
-use Rattle.dh_syntax.specs.Imports.Machine.{State, Claim, Release, Fetched, Looked, Finished, Late, Cycled, with_limit}
-use Rattle.dh_syntax.specs.Imports.Replay.{with_bare, keys_noted, keys_found, distinct, has_too_many}
+use Rattle.dh_imports.specs.Machine.{State, Claim, Release, Fetched, Looked, Finished, Late, Cycled, with_limit}
+use Rattle.dh_imports.specs.Replay.{with_bare, keys_noted, keys_found, distinct, has_too_many}
 use Rattle.dh_syntax.specs.Limits.{most_keys}
-use Rattle.dh_syntax.specs.Imports.Resolver.{is_in}
-use Rattle.dh_syntax.specs.Imports.Walk.{keys_of}
+use Rattle.dh_imports.specs.Resolver.{is_in}
+use Rattle.dh_imports.specs.Walk.{keys_of}
 use Rattle.dh_laws.proofs.KeyOrder.{bool-case, true_false, key_eq-true, key_eq-itself}
 
 size : List Key → ℕ

@@ -4,10 +4,10 @@ use Rattle.std.proofs.Common.{sym, subst, inl, inr}
 use Rattle.dh_syntax.specs.declared.locations.Key.{Key}
 use Rattle.dh_syntax.specs.Expressions.Numbers.{eq}
 use Rattle.dh_syntax.specs.Expressions.Tree.{Term}
-use Rattle.dh_syntax.specs.Imports.Machine.{Task, Finish, finishes, TaskOf, State, outcome_of, stage_of, IsDue, InFlight, Event, Claim, Release, Fetched, Looked, Finished, Late, Cycled, May, without, effect, after_all, Lawful}
-use Rattle.dh_syntax.specs.Imports.Records.{lookup}
-use Rattle.dh_syntax.specs.Imports.Resolver.{Stage, Lacks, Has, Meets, Waits}
-use Rattle.dh_syntax.specs.Imports.Walk.{Ask}
+use Rattle.dh_imports.specs.Machine.{Task, Finish, finishes, TaskOf, State, outcome_of, stage_of, IsDue, InFlight, Event, Claim, Release, Fetched, Looked, Finished, Late, Cycled, May, without, effect, after_all, Lawful}
+use Rattle.dh_imports.specs.Records.{lookup}
+use Rattle.dh_imports.specs.Resolver.{Stage, Lacks, Has, Meets, Waits}
+use Rattle.dh_imports.specs.Walk.{Ask}
 use Rattle.dh_laws.proofs.KeyOrder.{bool-case, none-some, some-equal}
 use Rattle.dh_import_laws.specs.ImportLaws.{InFlightDue}
 use Rattle.dh_import_laws.proofs.Facts.{Grows, step-grows}

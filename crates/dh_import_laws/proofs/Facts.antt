@@ -7,14 +7,14 @@ use Rattle.dh_syntax.specs.Expressions.Tree.{Term}
 use Rattle.dh_syntax.proofs.SameTree.{Tells, locs_tell, digests_tell}
 use Rattle.dh_import_laws.specs.ImportLaws.{IsDecided, InFlightUnrecorded, OutcomesStay, RootStays, TextsAreParsed, EntriesAreGood, LimitsAreLicensed}
 use Rattle.dh_syntax.specs.Imports.Keys.{key_eq}
-use Rattle.dh_syntax.specs.Imports.LastStep.{Code, own}
-use Rattle.dh_syntax.specs.Imports.Machine.{State, outcome_of, stage_of, root_walk, Fetch, Look, Finish, Event, Claim, Release, Fetched, Looked, Finished, Late, Cycled, May, with_limit, effect, after_all, Lawful}
-use Rattle.dh_syntax.specs.declared.outcomes.Why.{Why}
-use Rattle.dh_syntax.specs.Imports.Outcomes.{Outcome, Loop}
-use Rattle.dh_syntax.specs.Imports.Records.{lookup, Record, limit_at, IsParsed, IsGood, IsLimitOf}
-use Rattle.dh_syntax.specs.Imports.Resolver.{Stage, Has}
+use Rattle.dh_imports.specs.LastStep.{Code, own}
+use Rattle.dh_imports.specs.Machine.{State, outcome_of, stage_of, root_walk, Fetch, Look, Finish, Event, Claim, Release, Fetched, Looked, Finished, Late, Cycled, May, with_limit, effect, after_all, Lawful}
+use Rattle.dh_imports.specs.declared.outcomes.Why.{Why}
+use Rattle.dh_imports.specs.Outcomes.{Outcome, Loop}
+use Rattle.dh_imports.specs.Records.{lookup, Record, limit_at, IsParsed, IsGood, IsLimitOf}
+use Rattle.dh_imports.specs.Resolver.{Stage, Has}
 use Rattle.dh_laws.proofs.KeyOrder.{bool-case, none-some, some-equal, key_eq-true, key_eq-itself}
-use Rattle.dh_syntax.specs.Imports.Walk.{Walked, Ready, Fails, Turns, Needs, Ask, walk}
+use Rattle.dh_imports.specs.Walk.{Walked, Ready, Fails, Turns, Needs, Ask, walk}
 use Rattle.dh_import_laws.proofs.Walks.{Knows, Grown, walk-grown}
 use Rattle.dh_import_laws.proofs.Grow.{Longer, longer-itself, StageGrown, stage-grown}
 use Rattle.dh_import_laws.proofs.Calm.{at-same, at-grown}

@@ -3,14 +3,14 @@ use Rattle.std.specs.Prelude.{◌≡◌, List, Some}
 use Rattle.std.proofs.Common.{ap, ◌∙◌, subst}
 use Rattle.dh_syntax.specs.declared.locations.Key.{Key}
 use Rattle.dh_syntax.specs.declared.locations.Loc.{Loc}
-use Rattle.dh_syntax.specs.declared.outcomes.Blame.{Blame}
-use Rattle.dh_syntax.specs.declared.outcomes.Why.{Why}
-use Rattle.dh_syntax.specs.declared.outcomes.Why.TheVariants.{Typing, Failed}
+use Rattle.dh_imports.specs.declared.outcomes.Blame.{Blame}
+use Rattle.dh_imports.specs.declared.outcomes.Why.{Why}
+use Rattle.dh_imports.specs.declared.outcomes.Why.TheVariants.{Typing, Failed}
 use Rattle.dh_syntax.specs.Expressions.Tree.{Term}
-use Rattle.dh_syntax.specs.Imports.Machine.{Event, Lawful, after_all}
-use Rattle.dh_syntax.specs.Imports.Records as found
-use Rattle.dh_syntax.specs.Imports.Records.{Record, text_at, limit_at, IsLimitOf}
-use Rattle.dh_syntax.specs.Imports.Walk.{Ask}
+use Rattle.dh_imports.specs.Machine.{Event, Lawful, after_all}
+use Rattle.dh_imports.specs.Records as found
+use Rattle.dh_imports.specs.Records.{Record, text_at, limit_at, IsLimitOf}
+use Rattle.dh_imports.specs.Walk.{Ask}
 use Rattle.dh_import_laws.specs.Failures.{FailuresAreRecorded, RootFailuresAreRecorded}
 use Rattle.dh_import_laws.proofs.Facts.{limits_are_licensed}
 use Rattle.dh_import_laws.proofs.Keep.{lawful-keeps}

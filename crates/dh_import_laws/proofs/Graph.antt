@@ -3,8 +3,8 @@ use Rattle.std.specs.Prelude.{◌≡◌, ◌⊎◌, Bool, true, false, ◌||◌,
 use Rattle.std.proofs.Common.{sym, ◌∙◌, subst, inl, inr}
 use Rattle.dh_syntax.specs.declared.locations.Key.{Key}
 use Rattle.dh_syntax.specs.Imports.Keys.{key_eq, key_le}
-use Rattle.dh_syntax.specs.Imports.Machine.{IsAmong, Ring, closes, goes}
-use Rattle.dh_syntax.specs.Imports.Resolver.{is_in, lesser, least_back_to}
+use Rattle.dh_imports.specs.Machine.{IsAmong, Ring, closes, goes}
+use Rattle.dh_imports.specs.Resolver.{is_in, lesser, least_back_to}
 use Rattle.dh_laws.proofs.KeyOrder.{bool-case, true_false, key_eq-true, key_le-total, key_le-itself, key_le-antisymmetric, key_le-transitive}
 
 -- along these steps from x one comes to y

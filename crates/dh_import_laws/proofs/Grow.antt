@@ -7,12 +7,12 @@ use Rattle.dh_syntax.specs.declared.locations.Loc.{Loc}
 use Rattle.dh_syntax.specs.declared.locations.Mode.{Mode}
 use Rattle.dh_syntax.specs.declared.locations.Mode.TheVariants as modes
 use Rattle.dh_syntax.specs.Expressions.Tree.{Term}
-use Rattle.dh_syntax.specs.Imports.LastStep.{Item, Code, Text, Location, Compare, Entry, Fault, last_step}
-use Rattle.dh_syntax.specs.declared.outcomes.Why.{Why}
-use Rattle.dh_syntax.specs.Imports.Outcomes.{Outcome, Good, Bad, Loop}
-use Rattle.dh_syntax.specs.Imports.Records.{Record, Noted, Seen, text_at, look_at, limit_at}
-use Rattle.dh_syntax.specs.Imports.Resolver.{Plan, Unknown, Now, Walks, Asks, plan_text, unfetched, plan_fetch, plan_mode, plan_look, plan_digest, plan, Stage, Lacks, Has, Meets, Waits, of_walk, of_bare, of_plan, stage, unless_limit, closed, ended, is_in, least_back_to, resolve, Resolves}
-use Rattle.dh_syntax.specs.Imports.Walk.{Ask, Walked, Ready, Fails, Turns, Needs}
+use Rattle.dh_imports.specs.LastStep.{Item, Code, Text, Location, Compare, Entry, Fault, last_step}
+use Rattle.dh_imports.specs.declared.outcomes.Why.{Why}
+use Rattle.dh_imports.specs.Outcomes.{Outcome, Good, Bad, Loop}
+use Rattle.dh_imports.specs.Records.{Record, Noted, Seen, text_at, look_at, limit_at}
+use Rattle.dh_imports.specs.Resolver.{Plan, Unknown, Now, Walks, Asks, plan_text, unfetched, plan_fetch, plan_mode, plan_look, plan_digest, plan, Stage, Lacks, Has, Meets, Waits, of_walk, of_bare, of_plan, stage, unless_limit, closed, ended, is_in, least_back_to, resolve, Resolves}
+use Rattle.dh_imports.specs.Walk.{Ask, Walked, Ready, Fails, Turns, Needs}
 use Rattle.dh_import_laws.proofs.CodeRises.{code_outcome-rises}
 use Rattle.dh_laws.proofs.KeyOrder.{none-some, some-equal}
 use Rattle.dh_import_laws.proofs.Walks.{Knows, OnNeed, Grown, walk-grown, Told, walk-told}

@@ -10,13 +10,13 @@ use Rattle.dh_syntax.proofs.Numbers.{eq-itself, eq-true}
 use Rattle.dh_syntax.proofs.SameTree.{Tells, locs_tell, digests_tell}
 use Rattle.dh_import_laws.specs.ImportLaws.{IsUnrecorded}
 use Rattle.dh_syntax.specs.Imports.Keys.{key_eq}
-use Rattle.dh_syntax.specs.Imports.LastStep.{Code, last_step}
-use Rattle.dh_syntax.specs.Imports.Machine.{Task, Fetch, Look, Finish, State, outcome_of, stage_of, TaskOf, looks, fetches, finishes, InFlight, IsOpen, Blocks, Ring, closes, goes, LeastOfLoop, IsDone, Event, Claim, Release, Fetched, Looked, Finished, Late, Cycled, May, without, landed, with_text, with_look, with_limit, effect, after_all, Lawful}
-use Rattle.dh_syntax.specs.declared.outcomes.Why.{Why}
-use Rattle.dh_syntax.specs.Imports.Outcomes.{Outcome, Loop}
-use Rattle.dh_syntax.specs.Imports.Records.{lookup, Record, Noted, Seen, limit_at}
-use Rattle.dh_syntax.specs.Imports.Resolver.{TextOf, LookOf, Stage, Waits, stage, unless_limit, ended}
-use Rattle.dh_syntax.specs.Imports.Walk.{Ask}
+use Rattle.dh_imports.specs.LastStep.{Code, last_step}
+use Rattle.dh_imports.specs.Machine.{Task, Fetch, Look, Finish, State, outcome_of, stage_of, TaskOf, looks, fetches, finishes, InFlight, IsOpen, Blocks, Ring, closes, goes, LeastOfLoop, IsDone, Event, Claim, Release, Fetched, Looked, Finished, Late, Cycled, May, without, landed, with_text, with_look, with_limit, effect, after_all, Lawful}
+use Rattle.dh_imports.specs.declared.outcomes.Why.{Why}
+use Rattle.dh_imports.specs.Outcomes.{Outcome, Loop}
+use Rattle.dh_imports.specs.Records.{lookup, Record, Noted, Seen, limit_at}
+use Rattle.dh_imports.specs.Resolver.{TextOf, LookOf, Stage, Waits, stage, unless_limit, ended}
+use Rattle.dh_imports.specs.Walk.{Ask}
 use Rattle.dh_laws.proofs.KeyOrder.{bool-case, true_false, none-some, some-equal, key_eq-true, key_eq-itself}
 use Rattle.dh_import_laws.proofs.Grow.{Longer, longer-itself, OnWait, StageGrown, stage-grown, StageTold, stage-told, ended-grown, ended-limit}
 use Rattle.dh_import_laws.proofs.Calm.{Outcomes, at, at-same, at-grown}

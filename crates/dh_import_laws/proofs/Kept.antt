@@ -3,8 +3,8 @@ use Rattle.std.specs.Prelude.{◌≡◌, ◌⊎◌, ℕ, true, List, [], ◌∷�
 use Rattle.std.proofs.Common.{ap, sym, ◌∙◌, subst, inl, inr}
 use Rattle.dh_syntax.specs.declared.locations.Digest.{Digest}
 use Rattle.dh_syntax.specs.Expressions.Order.{before, ascending}
-use Rattle.dh_syntax.specs.Imports.Keeps.{digests_of}
-use Rattle.dh_syntax.specs.Imports.Machine.{IsAmong}
+use Rattle.dh_imports.specs.Keeps.{digests_of}
+use Rattle.dh_imports.specs.Machine.{IsAmong}
 use Rattle.dh_syntax.proofs.Numbers.{and-true_left, and-true_right}
 use Rattle.dh_syntax.proofs.Order.{before_irreflexive, before-transitive}
 use Rattle.dh_laws.proofs.KeyOrder.{true_false}

@@ -3,11 +3,11 @@ use Rattle.std.specs.Prelude.{◌≡◌, ℕ, List, [], ◌∷◌, None, refl}
 use Rattle.std.proofs.Common.{◌∙◌, subst}
 use Rattle.dh_syntax.specs.Expressions.Tree.{Term}
 use Rattle.dh_import_laws.specs.ImportLaws.{KeysTotal, KeysTransitive, KeysAntisymmetric, OneOutcome, MoreToSpend, MoreRecorded, OutcomesAreResolved, RootIsResolved, GoesOn, FetchesAreWanted, FrozenLeadAfterLooks, InFlightOnce}
-use Rattle.dh_syntax.specs.Imports.Machine.{outcome_of, Event, after_all}
-use Rattle.dh_syntax.specs.Imports.Records as found
-use Rattle.dh_syntax.specs.Imports.Records.{Record, Noted, Seen, text_at, look_at, limit_at, lookup, IsParsed, IsGood, IsLimitOf}
-use Rattle.dh_syntax.specs.Imports.Resolver.{resolve}
-use Rattle.dh_syntax.specs.Imports.Walk.{walk}
+use Rattle.dh_imports.specs.Machine.{outcome_of, Event, after_all}
+use Rattle.dh_imports.specs.Records as found
+use Rattle.dh_imports.specs.Records.{Record, Noted, Seen, text_at, look_at, limit_at, lookup, IsParsed, IsGood, IsLimitOf}
+use Rattle.dh_imports.specs.Resolver.{resolve}
+use Rattle.dh_imports.specs.Walk.{walk}
 use Rattle.dh_laws.proofs.KeyOrder.{key_le-total, key_le-transitive, key_le-antisymmetric}
 use Rattle.dh_import_laws.proofs.Grow.{resolve-rises, resolve-grown, resolves-one}
 use Rattle.dh_import_laws.proofs.Sound.{decided, walk-decided}

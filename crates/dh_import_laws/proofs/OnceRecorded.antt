@@ -3,11 +3,11 @@ use Rattle.std.specs.Prelude.{◌≡◌, ◌⊎◌, ◌≤◌, ◌+◌, Bool, tr
 use Rattle.std.proofs.Common.{ap, sym, ◌∙◌, subst, inl, inr, arith}
 use Rattle.std.proofs.lemmas.List.Sums.{sum_by-cons}
 use Rattle.dh_syntax.specs.declared.locations.Key.{Key}
-use Rattle.dh_syntax.specs.declared.outcomes.Why.{Why}
+use Rattle.dh_imports.specs.declared.outcomes.Why.{Why}
 use Rattle.dh_syntax.specs.Expressions.SameTree.{digest_eq, loc_eq}
 use Rattle.dh_syntax.specs.Expressions.Tree.{Term}
-use Rattle.dh_syntax.specs.Imports.Machine.{Fetch, Look, Event, Claim, Release, Fetched, Looked, Finished, Late, Cycled, with_limit, after_all, Lawful}
-use Rattle.dh_syntax.specs.Imports.Records.{lookup, Record}
+use Rattle.dh_imports.specs.Machine.{Fetch, Look, Event, Claim, Release, Fetched, Looked, Finished, Late, Cycled, with_limit, after_all, Lawful}
+use Rattle.dh_imports.specs.Records.{lookup, Record}
 use Rattle.dh_syntax.proofs.SameTree.{Tells, locs_tell, digests_tell}
 use Rattle.dh_laws.proofs.KeyOrder.{bool-case, none-some}
 use Rattle.dh_import_laws.specs.Recorded.{TextsAreRecordedOnce, LooksAreRecordedOnce}

@@ -4,13 +4,13 @@ use Rattle.std.proofs.Common.{ap, sym, ◌∙◌, subst}
 use Rattle.std.proofs.Math.Path.{fun_ext}
 use Rattle.dh_syntax.specs.declared.expressions.Op.{Op}
 use Rattle.dh_syntax.specs.declared.locations.Key.{Key}
-use Rattle.dh_syntax.specs.declared.outcomes.Blame.{Blame}
-use Rattle.dh_syntax.specs.declared.outcomes.Why.TheVariants.{Insane}
+use Rattle.dh_imports.specs.declared.outcomes.Blame.{Blame}
+use Rattle.dh_imports.specs.declared.outcomes.Why.TheVariants.{Insane}
 use Rattle.dh_syntax.specs.Expressions.Tree.{Row, Leaf, Node, end, kid, Name, Var, Term}
 use Rattle.dh_syntax.specs.Normalising.Trees.{replace_row}
-use Rattle.dh_syntax.specs.Imports.Outcomes.{Outcome, may_go_on}
-use Rattle.dh_syntax.specs.Imports.TextPaths.{to_side, way_on, way_into, text_path, text_paths}
-use Rattle.dh_syntax.specs.Imports.Walk.{Ask, Form, importing, choosing, other, form_of, Walked, Ready, Fails, Turns, Needs, and_then, or_else, in_order, by_outcome, is_sane, walk_key, walk_node, walk, walks}
+use Rattle.dh_imports.specs.Outcomes.{Outcome, may_go_on}
+use Rattle.dh_imports.specs.TextPaths.{to_side, way_on, way_into, text_path, text_paths}
+use Rattle.dh_imports.specs.Walk.{Ask, Form, importing, choosing, other, form_of, Walked, Ready, Fails, Turns, Needs, and_then, or_else, in_order, by_outcome, is_sane, walk_key, walk_node, walk, walks}
 use Rattle.dh_import_laws.specs.ImportLaws.{IsDecided}
 use Rattle.dh_import_laws.specs.Paths.{OnePath}
 use Rattle.dh_import_laws.proofs.Grow.{resolves-one}

@@ -9,13 +9,13 @@ use Rattle.dh_syntax.specs.declared.locations.Mode.{Mode}
 use Rattle.dh_syntax.specs.declared.locations.Mode.TheVariants as modes
 use Rattle.dh_syntax.specs.Expressions.Tree.{Term}
 use Rattle.dh_syntax.specs.Imports.Keys.{bare}
-use Rattle.dh_syntax.specs.Imports.Machine.{Fetch, IsAmong, State, outcome_of, leads_by, leads_to, Wanted, by_root, by_key, TaskOf, fetches}
-use Rattle.dh_syntax.specs.declared.outcomes.Why.{Why}
-use Rattle.dh_syntax.specs.Imports.Outcomes.{Outcome}
-use Rattle.dh_syntax.specs.Imports.Records as found
-use Rattle.dh_syntax.specs.Imports.Records.{Record, Noted, Seen, Found, text_at, look_at}
-use Rattle.dh_syntax.specs.Imports.Resolver.{Part, TextOf, LookOf, Plan, Unknown, Now, Walks, Asks, plan_parsed, plan_found, plan_text, unfetched, plan_fetch, plan_mode, plan_look, plan_digest, plan, Lacks, stage}
-use Rattle.dh_syntax.specs.Imports.Walk.{Ask, undecided, course}
+use Rattle.dh_imports.specs.Machine.{Fetch, IsAmong, State, outcome_of, leads_by, leads_to, Wanted, by_root, by_key, TaskOf, fetches}
+use Rattle.dh_imports.specs.declared.outcomes.Why.{Why}
+use Rattle.dh_imports.specs.Outcomes.{Outcome}
+use Rattle.dh_imports.specs.Records as found
+use Rattle.dh_imports.specs.Records.{Record, Noted, Seen, Found, text_at, look_at}
+use Rattle.dh_imports.specs.Resolver.{Part, TextOf, LookOf, Plan, Unknown, Now, Walks, Asks, plan_parsed, plan_found, plan_text, unfetched, plan_fetch, plan_mode, plan_look, plan_digest, plan, Lacks, stage}
+use Rattle.dh_imports.specs.Walk.{Ask, undecided, course}
 use Rattle.dh_laws.proofs.KeyOrder.{none-some}
 use Rattle.dh_import_laws.proofs.Grow.{stage-told, StageTold}
 

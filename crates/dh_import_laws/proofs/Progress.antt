@@ -8,12 +8,12 @@ use Rattle.dh_syntax.specs.Expressions.SameTree.{loc_eq}
 use Rattle.dh_syntax.specs.Expressions.Tree.{Term}
 use Rattle.dh_syntax.proofs.SameTree.{locs_tell}
 use Rattle.dh_syntax.specs.Imports.Keys.{bare, key_eq}
-use Rattle.dh_syntax.specs.Imports.Machine.{Task, Fetch, Look, Finish, IsAmong, State, outcome_of, stage_of, root_walk, leads_by, Wanted, by_root, by_key, IsDue, TaskOf, looks, fetches, finishes, IsOpen, Blocks, Cycled, May, effect}
-use Rattle.dh_syntax.specs.Imports.Outcomes.{Outcome, Loop, Good, Bad}
-use Rattle.dh_syntax.specs.Imports.Records.{lookup, Noted, Found}
-use Rattle.dh_syntax.specs.Imports.Replay.{with_bare, keys_noted, keys_found, keys}
-use Rattle.dh_syntax.specs.Imports.Resolver.{TextOf, LookOf, Plan, Unknown, Now, Walks, Asks, plan, Stage, Lacks, Has, Meets, Waits, of_walk, of_bare, of_plan, is_in, least_back_to}
-use Rattle.dh_syntax.specs.Imports.Walk.{Ask, Walked, Ready, Fails, Turns, Needs, walk, course, keys_of}
+use Rattle.dh_imports.specs.Machine.{Task, Fetch, Look, Finish, IsAmong, State, outcome_of, stage_of, root_walk, leads_by, Wanted, by_root, by_key, IsDue, TaskOf, looks, fetches, finishes, IsOpen, Blocks, Cycled, May, effect}
+use Rattle.dh_imports.specs.Outcomes.{Outcome, Loop, Good, Bad}
+use Rattle.dh_imports.specs.Records.{lookup, Noted, Found}
+use Rattle.dh_imports.specs.Replay.{with_bare, keys_noted, keys_found, keys}
+use Rattle.dh_imports.specs.Resolver.{TextOf, LookOf, Plan, Unknown, Now, Walks, Asks, plan, Stage, Lacks, Has, Meets, Waits, of_walk, of_bare, of_plan, is_in, least_back_to}
+use Rattle.dh_imports.specs.Walk.{Ask, Walked, Ready, Fails, Turns, Needs, walk, course, keys_of}
 use Rattle.dh_laws.proofs.KeyOrder.{bool-case, true_false, none-some, some-equal, key_eq-true, key_eq-itself}
 use Rattle.dh_import_laws.proofs.Walks.{Knows, OnNeed, Grown, walk-grown, Told, walk-told}
 use Rattle.dh_import_laws.proofs.Grow.{longer-itself, OnWait, StageGrown, stage-grown, StageTold, stage-told}

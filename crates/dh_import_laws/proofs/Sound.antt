@@ -4,11 +4,11 @@ use Rattle.std.proofs.Common.{ap, sym, ◌∙◌, subst, inl, inr}
 use Rattle.dh_syntax.specs.declared.locations.Key.{Key}
 use Rattle.dh_syntax.specs.Expressions.Tree.{Term}
 use Rattle.dh_syntax.specs.Imports.Keys.{key_eq}
-use Rattle.dh_syntax.specs.Imports.Machine.{Blocks, Ring, closes, goes, LeastOfLoop}
-use Rattle.dh_syntax.specs.Imports.Outcomes.{Outcome, Good, Bad, Loop}
-use Rattle.dh_syntax.specs.Imports.Records.{Record}
-use Rattle.dh_syntax.specs.Imports.Resolver.{Meets, Waits, stage, ended, is_in, resolve, Resolves}
-use Rattle.dh_syntax.specs.Imports.Walk.{Ask, walk}
+use Rattle.dh_imports.specs.Machine.{Blocks, Ring, closes, goes, LeastOfLoop}
+use Rattle.dh_imports.specs.Outcomes.{Outcome, Good, Bad, Loop}
+use Rattle.dh_imports.specs.Records.{Record}
+use Rattle.dh_imports.specs.Resolver.{Meets, Waits, stage, ended, is_in, resolve, Resolves}
+use Rattle.dh_imports.specs.Walk.{Ask, walk}
 use Rattle.dh_laws.proofs.KeyOrder.{bool-case, true_false, none-some, key_eq-true, key_eq-itself}
 use Rattle.dh_import_laws.proofs.Walks.{Knows, Grown, walk-grown}
 use Rattle.dh_import_laws.proofs.Grow.{longer-itself, OnWait, StageGrown, stage-grown, stage-told, StageTold, plus, rises-plus, rises-plus_left, ended-rises, ended-grown, resolve-rises}

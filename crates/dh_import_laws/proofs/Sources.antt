@@ -12,19 +12,20 @@ use Rattle.dh_syntax.specs.declared.locations.Loc.{Loc}
 use Rattle.dh_syntax.specs.declared.locations.Loc.TheVariants as locs
 use Rattle.dh_syntax.specs.declared.locations.Mode.{Mode}
 use Rattle.dh_syntax.specs.declared.locations.Mode.TheVariants as modes
-use Rattle.dh_syntax.specs.declared.outcomes.Blame.{Blame}
-use Rattle.dh_syntax.specs.declared.outcomes.Origin.{Origin}
-use Rattle.dh_syntax.specs.declared.outcomes.Why.{Why}
-use Rattle.dh_syntax.specs.declared.outcomes.Why.TheVariants.{Parse, Typing, Absent, Missing, Broken, Https, Failed, Differs, Insane, Cors}
+use Rattle.dh_imports.specs.declared.outcomes.Blame.{Blame}
+use Rattle.dh_imports.specs.declared.outcomes.Origin.{Origin}
+use Rattle.dh_imports.specs.declared.outcomes.Why.{Why}
+use Rattle.dh_imports.specs.declared.outcomes.Why.TheVariants.{Parse, Typing, Absent, Missing, Broken, Https, Failed, Differs, Insane, Cors}
 use Rattle.dh_syntax.specs.Expressions.SameTree.{digest_eq}
 use Rattle.dh_syntax.specs.Expressions.Tree.{Row, Leaf, Node, end, kid, Name, Var, Term}
 use Rattle.dh_syntax.specs.Imports.Keys.{chained, key_eq}
-use Rattle.dh_syntax.specs.Imports.LastStep.{Code, Text, Location, Compare, Entry, Fault, digest_of, text_outcome, compared, last_step}
-use Rattle.dh_syntax.specs.Imports.Outcomes.{Outcome, Good, Bad, Loop, may_go_on}
-use Rattle.dh_syntax.specs.Imports.Records as found
-use Rattle.dh_syntax.specs.Imports.Records.{Record, Noted, Seen, Found, text_at, look_at, limit_at}
-use Rattle.dh_syntax.specs.Imports.Resolver.{Plan, Unknown, Now, Walks, Asks, plan_parsed, plan_found, plan_text, unfetched, plan_fetch, plan_mode, plan_look, plan_digest, plan, Stage, Lacks, Has, Meets, Waits, of_walk, of_bare, of_plan, stage, unless_limit, ended}
-use Rattle.dh_syntax.specs.Imports.Walk.{Ask, place, Form, importing, choosing, other, form_of, Walked, Ready, Fails, Turns, Needs, and_then, or_else, in_order, allowed, by_outcome, is_sane, walk_node, walk, walks}
+use Rattle.dh_imports.specs.LastStep.{Code, Text, Location, Compare, Entry, Fault, text_outcome, compared, last_step}
+use Rattle.dh_syntax.specs.Bytes.Digests.{digest_of}
+use Rattle.dh_imports.specs.Outcomes.{Outcome, Good, Bad, Loop, may_go_on}
+use Rattle.dh_imports.specs.Records as found
+use Rattle.dh_imports.specs.Records.{Record, Noted, Seen, Found, text_at, look_at, limit_at}
+use Rattle.dh_imports.specs.Resolver.{Plan, Unknown, Now, Walks, Asks, plan_parsed, plan_found, plan_text, unfetched, plan_fetch, plan_mode, plan_look, plan_digest, plan, Stage, Lacks, Has, Meets, Waits, of_walk, of_bare, of_plan, stage, unless_limit, ended}
+use Rattle.dh_imports.specs.Walk.{Ask, place, Form, importing, choosing, other, form_of, Walked, Ready, Fails, Turns, Needs, and_then, or_else, in_order, allowed, by_outcome, is_sane, walk_node, walk, walks}
 use Rattle.dh_syntax.specs.Limits.{most_bytes}
 use Rattle.dh_syntax.specs.Typing.NamedTyping.{IsIll}
 use Rattle.dh_laws.proofs.KeyOrder.{bool-case, none-some, some-equal}

@@ -3,19 +3,19 @@ use Rattle.std.specs.Prelude.{◌≡◌, ◌⊎◌, ℕ, Bool, true, false, if�
 use Rattle.std.proofs.Common.{ap, sym, ◌∙◌, subst, inl, inr}
 use Rattle.dh_syntax.specs.declared.expressions.Op.{Op}
 use Rattle.dh_syntax.specs.declared.locations.Key.{Key}
-use Rattle.dh_syntax.specs.declared.outcomes.Blame.{Blame}
-use Rattle.dh_syntax.specs.declared.outcomes.Why.TheVariants.{Insane}
+use Rattle.dh_imports.specs.declared.outcomes.Blame.{Blame}
+use Rattle.dh_imports.specs.declared.outcomes.Why.TheVariants.{Insane}
 use Rattle.dh_syntax.specs.Expressions.Tree.{Row, Leaf, Node, end, kid, Name, Var, Term}
 use Rattle.dh_syntax.specs.Normalising.Trees.{replace_row}
 use Rattle.dh_import_laws.specs.ImportLaws.{VisitsAreResolved}
-use Rattle.dh_syntax.specs.Imports.Keeps.{asked_by, Visited, by_root, by_key}
+use Rattle.dh_imports.specs.Keeps.{asked_by, Visited, by_root, by_key}
 use Rattle.dh_syntax.specs.Imports.Keys.{chained}
-use Rattle.dh_syntax.specs.Imports.LastStep.{Item}
-use Rattle.dh_syntax.specs.Imports.Machine.{IsAmong, outcome_of, after_all}
-use Rattle.dh_syntax.specs.Imports.Outcomes.{Outcome, Good, Bad, Loop, may_go_on}
-use Rattle.dh_syntax.specs.Imports.Records.{Record}
-use Rattle.dh_syntax.specs.Imports.Resolver.{Plan, Unknown, Now, Walks, Asks, plan, Stage, Lacks, Has, Meets, Waits, of_walk, of_bare, of_plan, stage, ended, resolve}
-use Rattle.dh_syntax.specs.Imports.Walk.{Ask, place, Form, importing, choosing, other, form_of, Walked, Ready, Fails, Turns, Needs, and_then, or_else, in_order, by_outcome, is_sane, walk_key, walk_node, walk, walks, Ending, Goes, Stops, Circles, Course, after, then_by, else_by, all_courses, ending_by, course_key, course_node, course, courses}
+use Rattle.dh_imports.specs.LastStep.{Item}
+use Rattle.dh_imports.specs.Machine.{IsAmong, outcome_of, after_all}
+use Rattle.dh_imports.specs.Outcomes.{Outcome, Good, Bad, Loop, may_go_on}
+use Rattle.dh_imports.specs.Records.{Record}
+use Rattle.dh_imports.specs.Resolver.{Plan, Unknown, Now, Walks, Asks, plan, Stage, Lacks, Has, Meets, Waits, of_walk, of_bare, of_plan, stage, ended, resolve}
+use Rattle.dh_imports.specs.Walk.{Ask, place, Form, importing, choosing, other, form_of, Walked, Ready, Fails, Turns, Needs, and_then, or_else, in_order, by_outcome, is_sane, walk_key, walk_node, walk, walks, Ending, Goes, Stops, Circles, Course, after, then_by, else_by, all_courses, ending_by, course_key, course_node, course, courses}
 use Rattle.dh_laws.proofs.KeyOrder.{bool-case, none-some, key_eq-true}
 use Rattle.dh_import_laws.proofs.Walks.{Knows, Grown, walk-grown}
 use Rattle.dh_import_laws.proofs.Grow.{longer-itself, StageGrown, stage-grown}

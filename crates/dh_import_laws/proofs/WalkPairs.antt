@@ -6,7 +6,7 @@ use Rattle.dh_syntax.specs.declared.locations.Key.{Key}
 use Rattle.dh_syntax.specs.Expressions.Tree.{Row, Leaf, Node, end, kid, Name, Var, Term}
 use Rattle.dh_syntax.specs.Normalising.Trees.{replace_row}
 use Rattle.dh_syntax.specs.Imports.Keys.{chained}
-use Rattle.dh_syntax.specs.Imports.Walk.{Ask, place, Form, importing, choosing, other, form_of, Walked, Ready, and_then, or_else, in_order, walk_key, walk_node, walk, walks}
+use Rattle.dh_imports.specs.Walk.{Ask, place, Form, importing, choosing, other, form_of, Walked, Ready, and_then, or_else, in_order, walk_key, walk_node, walk, walks}
 
 abbrev pub Relation : Type 1
 Relation = (X : Type 0) → Walked X → Walked X → Type 0

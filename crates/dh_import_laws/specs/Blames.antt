@@ -2,14 +2,14 @@
 use Rattle.std.specs.Prelude.{◌≡◌, ℕ, List, [], Some}
 use Rattle.dh_syntax.specs.declared.faults.Ill.{Ill}
 use Rattle.dh_syntax.specs.declared.locations.Key.{Key}
-use Rattle.dh_syntax.specs.declared.outcomes.Blame.{Blame}
-use Rattle.dh_syntax.specs.Command.ImportFaults.{ill_of}
+use Rattle.dh_imports.specs.declared.outcomes.Blame.{Blame}
+use Rattle.dh_imports.specs.ImportFaults.{ill_of}
 use Rattle.dh_syntax.specs.Expressions.Tree.{Term}
-use Rattle.dh_syntax.specs.Imports.Machine.{Event, after_all, outcome_of, root_walk, Lawful}
-use Rattle.dh_syntax.specs.Imports.Outcomes.{Bad}
-use Rattle.dh_syntax.specs.Imports.Readings.{IsReading}
-use Rattle.dh_syntax.specs.Imports.Records.{Record}
-use Rattle.dh_syntax.specs.Imports.Walk.{Ask, Fails}
+use Rattle.dh_imports.specs.Machine.{Event, after_all, outcome_of, root_walk, Lawful}
+use Rattle.dh_imports.specs.Outcomes.{Bad}
+use Rattle.dh_imports.specs.Readings.{IsReading}
+use Rattle.dh_imports.specs.Records.{Record}
+use Rattle.dh_imports.specs.Walk.{Ask, Fails}
 use Rattle.dh_syntax.specs.Typing.NamedTyping.{IsIll}
 
 -- The fault is that of a key whose text was found and spells an expression; by the outcomes that are known, which are the resolver's,

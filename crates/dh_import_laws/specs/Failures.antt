@@ -2,14 +2,14 @@
 use Rattle.std.specs.Prelude.{◌≡◌, List, Some}
 use Rattle.dh_syntax.specs.declared.locations.Key.{Key}
 use Rattle.dh_syntax.specs.declared.locations.Loc.{Loc}
-use Rattle.dh_syntax.specs.declared.outcomes.Blame.{Blame}
-use Rattle.dh_syntax.specs.declared.outcomes.Why.TheVariants as whys
+use Rattle.dh_imports.specs.declared.outcomes.Blame.{Blame}
+use Rattle.dh_imports.specs.declared.outcomes.Why.TheVariants as whys
 use Rattle.dh_syntax.specs.Expressions.Tree.{Term}
-use Rattle.dh_syntax.specs.Imports.Machine.{Event, after_all, outcome_of, root_walk, Lawful}
-use Rattle.dh_syntax.specs.Imports.Outcomes.{Bad}
-use Rattle.dh_syntax.specs.Imports.Records as found
-use Rattle.dh_syntax.specs.Imports.Records.{text_at}
-use Rattle.dh_syntax.specs.Imports.Walk.{Fails}
+use Rattle.dh_imports.specs.Machine.{Event, after_all, outcome_of, root_walk, Lawful}
+use Rattle.dh_imports.specs.Outcomes.{Bad}
+use Rattle.dh_imports.specs.Records as found
+use Rattle.dh_imports.specs.Records.{text_at}
+use Rattle.dh_imports.specs.Walk.{Fails}
 
 -- Where a failed device is the fault of a key, a failure is recorded at some location.
 abbrev pub FailuresAreRecorded : Type 0

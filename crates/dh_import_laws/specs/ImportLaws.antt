@@ -11,18 +11,18 @@ use Rattle.dh_syntax.specs.Typing.NamedTyping.{Infers, IsIll}
 use Rattle.dh_syntax.specs.Normalising.Normal.{HasNormalForm}
 use Rattle.dh_syntax.specs.Expressions.Tree.{Term}
 use Rattle.dh_syntax.specs.Imports.Keys.{bare, key_le}
-use Rattle.dh_syntax.specs.Imports.LastStep.{Code, own, last_step}
-use Rattle.dh_syntax.specs.Imports.Machine.{IsAmong, Task, Fetch, Look, Finish, State, outcome_of, stage_of, root_walk, leads_to, Wanted, IsDue, IsOpen, InFlight, Event, Claim, Cycled, May, effect, after_all, Lawful}
-use Rattle.dh_syntax.specs.declared.outcomes.Origin.TheVariants as origins
-use Rattle.dh_syntax.specs.declared.outcomes.Why.TheVariants as whys
-use Rattle.dh_syntax.specs.declared.outcomes.Why.{Why}
-use Rattle.dh_syntax.specs.Imports.Outcomes.{Outcome, Good}
-use Rattle.dh_syntax.specs.Imports.Records as found
-use Rattle.dh_syntax.specs.Imports.Records.{Record, Noted, Seen, text_at, look_at, limit_at, IsParsed, IsGood, IsLimitOf}
-use Rattle.dh_syntax.specs.Imports.Replay.{has_too_many}
-use Rattle.dh_syntax.specs.Imports.Resolver.{Has, resolve, Resolves, ResolvesRoot, unfetched}
-use Rattle.dh_syntax.specs.Imports.Keeps.{Visited, AreKeeps}
-use Rattle.dh_syntax.specs.Imports.Walk.{Ask, walk, Walked, Ready, Turns, Needs}
+use Rattle.dh_imports.specs.LastStep.{Code, own, last_step}
+use Rattle.dh_imports.specs.Machine.{IsAmong, Task, Fetch, Look, Finish, State, outcome_of, stage_of, root_walk, leads_to, Wanted, IsDue, IsOpen, InFlight, Event, Claim, Cycled, May, effect, after_all, Lawful}
+use Rattle.dh_imports.specs.declared.outcomes.Origin.TheVariants as origins
+use Rattle.dh_imports.specs.declared.outcomes.Why.TheVariants as whys
+use Rattle.dh_imports.specs.declared.outcomes.Why.{Why}
+use Rattle.dh_imports.specs.Outcomes.{Outcome, Good}
+use Rattle.dh_imports.specs.Records as found
+use Rattle.dh_imports.specs.Records.{Record, Noted, Seen, text_at, look_at, limit_at, IsParsed, IsGood, IsLimitOf}
+use Rattle.dh_imports.specs.Replay.{has_too_many}
+use Rattle.dh_imports.specs.Resolver.{Has, resolve, Resolves, ResolvesRoot, unfetched}
+use Rattle.dh_imports.specs.Keeps.{Visited, AreKeeps}
+use Rattle.dh_imports.specs.Walk.{Ask, walk, Walked, Ready, Turns, Needs}
 
 -- ---- the order of keys
 

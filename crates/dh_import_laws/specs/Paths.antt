@@ -2,10 +2,10 @@
 use Rattle.std.specs.Prelude.{◌≡◌, ℕ, List, Option, Some}
 use Rattle.dh_syntax.specs.declared.locations.Key.{Key}
 use Rattle.dh_syntax.specs.Expressions.Tree.{Term}
-use Rattle.dh_syntax.specs.Imports.Readings.{AreOutcomes}
-use Rattle.dh_syntax.specs.Imports.Records.{Record}
-use Rattle.dh_syntax.specs.Imports.TextPaths.{text_path}
-use Rattle.dh_syntax.specs.Imports.Walk.{Ask, Ready, walk}
+use Rattle.dh_imports.specs.Readings.{AreOutcomes}
+use Rattle.dh_imports.specs.Records.{Record}
+use Rattle.dh_imports.specs.TextPaths.{text_path}
+use Rattle.dh_imports.specs.Walk.{Ask, Ready, walk}
 
 -- A text has the same value under each key of its location.
 abbrev pub ValuesByLocation : Type 0

@@ -4,7 +4,7 @@ use Rattle.dh_syntax.specs.declared.locations.Digest.{Digest}
 use Rattle.dh_syntax.specs.declared.locations.Loc.{Loc}
 use Rattle.dh_syntax.specs.Expressions.SameTree.{digest_eq, loc_eq}
 use Rattle.dh_syntax.specs.Expressions.Tree.{Term}
-use Rattle.dh_syntax.specs.Imports.Machine.{Event, after_all, Lawful}
+use Rattle.dh_imports.specs.Machine.{Event, after_all, Lawful}
 
 -- A location is that of one recorded text at most.
 abbrev pub TextsAreRecordedOnce : Type 0

@@ -1,12 +1,13 @@
 //! Tests with real threads over desks in memory: imports are fetched once by any number of workers, two fetches are under way at
 //! once, a device that fails, a loop, and desks that stand in their order again.
 
+use dh_imports::Why;
 use dh_ports::{
     Content, Contents, Desk, DeskFails, Found, Gate, Got, HoldGate, MemDesk, OpenGate, Silent,
     are_short,
 };
 use dh_session::{SessionFault, resolve_all};
-use dh_syntax::{BoxedImport, Bytes, Digest, Expr, Import, Kid, Loc, Many, Mode, Op, Piece, Why};
+use dh_syntax::{BoxedImport, Bytes, Digest, Expr, Import, Kid, Loc, Many, Mode, Op, Piece};
 use dh_table::Ended;
 use std::alloc::{AllocError, Global};
 use std::sync::Wait;

@@ -9,8 +9,9 @@ ghost use Rattle.dh_syntax.specs.Expressions.Tree.{Node, end};
 ghost use Rattle.dh_table.specs.Brought.{BringsText, BringsOutcome};
 
 use crate::tables::{claimed, here, import, imports, is_kept, make_room, opened, task};
+use dh_imports::{Blame, Outcome, Why};
 use dh_ports::{Found, Got, Silent};
-use dh_syntax::{Blame, BoxedImport, Bytes, Expr, Import, Key, Loc, Many, Mode, Op, Outcome, Why};
+use dh_syntax::{BoxedImport, Bytes, Expr, Import, Key, Loc, Many, Mode, Op};
 use dh_table::{
     Body, Claimed, Done, Ended, Item, News, Noted, OpenFault, Parsed, Step, Table, Ticket,
 };

@@ -8,10 +8,9 @@ ghost use Rattle.dh_syntax.specs.Expressions.Bridge.{term};
 ghost use Rattle.dh_syntax.specs.Expressions.Tree.{Node, end};
 ghost use Rattle.dh_table.specs.Brought.{BringsText, BringsOutcome};
 
+use dh_imports::{Origin, Outcome};
 use dh_ports::{Found, Got, Silent};
-use dh_syntax::{
-    BoxedImport, Bytes, Digest, Expr, Import, Key, Kid, Loc, Many, Mode, Op, Origin, Outcome, Piece,
-};
+use dh_syntax::{BoxedImport, Bytes, Digest, Expr, Import, Key, Kid, Loc, Many, Mode, Op, Piece};
 use dh_table::{Body, Claimed, Done, Item, Kind, News, Noted, Parsed, Step, Table, Taken, Ticket};
 use std::alloc::{AllocError, Global};
 use std::test::Fail;

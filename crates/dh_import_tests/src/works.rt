@@ -4,13 +4,13 @@ ghost use Rattle.std.specs.Prelude.{IfOk};
 ghost use Rattle.dh_syntax.specs.Expressions.Bridge.{term};
 ghost use Rattle.dh_table.specs.Values.{IsCode, IsFit, IsValue};
 
+use dh_imports::{Blame, Origin, Outcome, Why};
 use dh_parse::parse;
 use dh_ports::{
     Cache, CacheEntry, Content, Desk, DeskFails, Found, Got, MemDesk, Silent, are_short,
 };
 use dh_syntax::{
-    Blame, Bytes, Digest, Expr, Key, Loc, Many, Mode, NormFault, Op, Origin, Outcome, ParseFault,
-    Piece, TypeFault, Url, Why,
+    Bytes, Digest, Expr, Key, Loc, Many, Mode, NormFault, Op, ParseFault, Piece, TypeFault, Url,
 };
 use dh_table::{Body, Done, Item, News, Noted, Parsed, Seen};
 use dh_terms::is_same_expr;

@@ -2,10 +2,10 @@
 use Rattle.std.specs.Prelude.{◌≡◌, ℕ, List, [], map, drop, Result, Ok, Err}
 use Rattle.std.specs.declared.vec.IntoIter.{IntoIter}
 use Rattle.std.specs.Vec.Iter.{into_iter_items}
-use Rattle.dh_syntax.specs.declared.statuses.Status.{Status}
-use Rattle.dh_syntax.specs.Command.Answer.{without_memory}
-use Rattle.dh_syntax.specs.Command.Statuses.{code_of}
-use Rattle.dh_syntax.specs.Command.Words.{Word}
+use Rattle.dh_command.specs.declared.statuses.Status.{Status}
+use Rattle.dh_command.specs.Responses.{without_memory}
+use Rattle.dh_command.specs.Statuses.{code_of}
+use Rattle.dh_command.specs.Words.{Word}
 use Rattle.dh_top.specs.Outside.{Outside}
 use Rattle.dh_top.specs.Runs.{Input, Output, Runs, Delivers}
 

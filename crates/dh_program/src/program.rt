@@ -4,15 +4,15 @@ ghost use Rattle.std.specs.Prelude.{◌≡◌, ◌<◌, List, [], drop, map, str
 ghost use Rattle.std.specs.IoError.{error_kind};
 ghost use Rattle.std.specs.Process.{exit_status};
 ghost use Rattle.std.specs.Vec.Iter.{into_iter_items};
-ghost use Rattle.dh_syntax.specs.Command.Answer.{without_memory};
-ghost use Rattle.dh_syntax.specs.Command.Statuses.{code_of};
-ghost use Rattle.dh_syntax.specs.Command.Words.{Word, command_of};
+ghost use Rattle.dh_command.specs.Responses.{without_memory};
+ghost use Rattle.dh_command.specs.Statuses.{code_of};
+ghost use Rattle.dh_command.specs.Words.{Word, command_of};
 ghost use Rattle.dh_top.specs.Outside.{Outside, outside, desks_for, UsesFirst};
 ghost use Rattle.dh_top.specs.Runs.{Input, Runs, Delivers, reading, output};
 ghost use Rattle.dh_program.specs.Ends.{Ends, EndsWithoutMemory, words_told};
 
+use dh_command::Status;
 use dh_ports::{Desk, Feed, Gate, Sink, World};
-use dh_syntax::Status;
 use dh_top::{deliver, run_dhall};
 use std::alloc::{AllocError, Global};
 use std::env::Args;
@@ -84,7 +84,7 @@ fn run_words<
     ensures desks { (told : List Word) → IfOk words (λ ws. map string_bytes ws.items ≡ told) → UsesFirst (λ d. D.filed d) (desks_for (command_of told) (vec_len desks.old)) desks.old.items desks.new.items }
     ensures runs { (told : List Word) → IfOk words (λ ws. map string_bytes ws.items ≡ told) → Runs told
         (reading (I.left input.old) (I.left input.new) (I.faults input.old) (I.faults input.new))
-        (outside W.told W.shelved (λ d. D.faults d) (λ d. D.filed d) desks.old.items desks.new.items)
+        (outside W.told W.shelved (λ d. D.asked d) (λ d. D.faults d) (λ d. D.filed d) desks.old.items desks.new.items)
         (output (O.written out.old) (O.written out.new) (O.faults out.old) (O.faults out.new))
         (output (E.written err.old) (E.written err.new) (E.faults err.old) (E.faults err.new)) result }
     ensures lacks { IsErr words → Delivers without_memory
@@ -131,7 +131,7 @@ pub fn run_program<
     ensures desks { UsesFirst (λ d. D.filed d) (desks_for (command_of (words_told string_bytes args)) (vec_len desks.old)) desks.old.items desks.new.items }
     ensures ends { Ends (words_told string_bytes args)
         (reading (I.left input.old) (I.left input.new) (I.faults input.old) (I.faults input.new))
-        (outside W.told W.shelved (λ d. D.faults d) (λ d. D.filed d) desks.old.items desks.new.items)
+        (outside W.told W.shelved (λ d. D.asked d) (λ d. D.faults d) (λ d. D.filed d) desks.old.items desks.new.items)
         (output (O.written out.old) (O.written out.new) (O.faults out.old) (O.faults out.new))
         (output (E.written err.old) (E.written err.new) (E.faults err.old) (E.faults err.new)) (exit_status result) }
 

@@ -11,12 +11,12 @@ use Rattle.dh_syntax.proofs.lists.Many.TheSendSync as many
 use Rattle.dh_syntax.proofs.locations.Digest.TheSendSync as digest
 use Rattle.dh_syntax.proofs.locations.Key.TheSendSync as key
 use Rattle.dh_syntax.proofs.locations.Loc.TheSendSync as loc
-use Rattle.dh_syntax.proofs.outcomes.Blame.TheSendSync as blame
-use Rattle.dh_syntax.proofs.outcomes.Origin.TheSendSync as origin
+use Rattle.dh_imports.proofs.outcomes.Blame.TheSendSync as blame
+use Rattle.dh_imports.proofs.outcomes.Origin.TheSendSync as origin
 use Rattle.dh_syntax.proofs.texts.Bytes.TheSendSync as bytes
 use Rattle.dh_syntax.proofs.texts.Label.TheSendSync as label
 use Rattle.dh_syntax.specs.contracts.expressions.Expr as expr
-use Rattle.dh_syntax.specs.contracts.outcomes.Outcome as outcome
+use Rattle.dh_imports.specs.contracts.outcomes.Outcome as outcome
 use Rattle.dh_demand.proofs.scans.Edge.TheSendSync as edge
 use Rattle.dh_demand.specs.contracts.scans.Scan as scan
 use Rattle.dh_ports.specs.declared.worlds.World as world

@@ -2,11 +2,11 @@
 use Rattle.std.specs.Prelude.{◌≡◌, Bool, true, false, List, Option, Some, None, IsSome, IfSome, if◌then◌else◌, refl}
 use Rattle.std.proofs.Common.{ap, sym, ◌∙◌, subst, inl, inr}
 use Rattle.dh_syntax.specs.Expressions.Tree.{Term}
-use Rattle.dh_syntax.specs.Imports.Machine.{Task, News, State, Event, root_walk, after_all, Lawful}
-use Rattle.dh_syntax.specs.Imports.Replay.{Step, Replays, RootEnd, too_many, has_too_many, end_of, root_end}
-use Rattle.dh_syntax.specs.Imports.Resolver.{ResolvesRoot}
-use Rattle.dh_syntax.specs.Imports.RootEnds.{EndsBy, resolved, overflows}
-use Rattle.dh_syntax.specs.Imports.Walk.{Walked, Ready, Fails, Turns, Needs}
+use Rattle.dh_imports.specs.Machine.{Task, News, State, Event, root_walk, after_all, Lawful}
+use Rattle.dh_imports.specs.Replay.{Step, Replays, RootEnd, too_many, has_too_many, end_of, root_end}
+use Rattle.dh_imports.specs.Resolver.{ResolvesRoot}
+use Rattle.dh_imports.specs.RootEnds.{EndsBy, resolved, overflows}
+use Rattle.dh_imports.specs.Walk.{Walked, Ready, Fails, Turns, Needs}
 use Rattle.dh_import_laws.specs.ImportLaws.{IsDecided}
 use Rattle.dh_import_laws.proofs.Laws.{root_is_resolved}
 use Rattle.dh_table.specs.Shown.{Shown}

@@ -1,6 +1,6 @@
 -- What is known of a table and of the desks where every worker found the run over.
 use Rattle.std.specs.Prelude.{◌≡◌, ◌⊎◌, ℕ, ◌+◌, ◌≤◌, List, [], ◌∷◌, Any, IsSome, sum_by, count_by}
-use Rattle.dh_syntax.specs.Imports.Replay.{root_end}
+use Rattle.dh_imports.specs.Replay.{root_end}
 use Rattle.dh_table.specs.Calls.{failures}
 use Rattle.dh_table.specs.Shown.{Shown}
 use Rattle.dh_table.specs.States.{state_of}

@@ -1,8 +1,8 @@
 //! What a run answers.
 
 ghost use Rattle.std.specs.Prelude.{◌≡◌, map, IsSome, IfOk, IfErr, IfSome};
-ghost use Rattle.dh_syntax.specs.Imports.Replay.{root_end};
-ghost use Rattle.dh_syntax.specs.Imports.RootEnds.{EndsBy};
+ghost use Rattle.dh_imports.specs.Replay.{root_end};
+ghost use Rattle.dh_imports.specs.RootEnds.{EndsBy};
 ghost use Rattle.dh_table.specs.Kept.{IsKeeping, pair_of};
 ghost use Rattle.dh_table.specs.Roots.{IsEnd, IsFitEnd};
 ghost use Rattle.dh_table.specs.States.{state_of};

@@ -2,9 +2,9 @@
 
 ghost use Rattle.std.specs.Prelude.{◌≡◌, ℕ, ◌≤◌, ◌<◌, [], true, false, drop, length, map, IfOk, IfErr, IfSome, vec_len, slice_index_or};
 ghost use Rattle.dh_syntax.specs.Expressions.Bridge.{term};
-ghost use Rattle.dh_syntax.specs.Imports.Machine.{opening};
-ghost use Rattle.dh_syntax.specs.Imports.Replay.{has_too_many, root_end};
-ghost use Rattle.dh_syntax.specs.Imports.RootEnds.{EndsBy};
+ghost use Rattle.dh_imports.specs.Machine.{opening};
+ghost use Rattle.dh_imports.specs.Replay.{has_too_many, root_end};
+ghost use Rattle.dh_imports.specs.RootEnds.{EndsBy};
 ghost use Rattle.dh_table.specs.Calls.{failures};
 ghost use Rattle.dh_table.specs.Kept.{IsKeeping, pair_of};
 ghost use Rattle.dh_table.specs.Roots.{IsEnd, IsFitEnd};
@@ -134,7 +134,8 @@ fn run<
 /// the run keeps in the cache, and the table. Whatever it answers, all desks stand in `desks` again in their order, and those that
 /// have no worker are as they were. Before each fetch a worker passes the gate.
 ///
-/// `TooMany` comes exactly where the root has more than 4,096 keys; keys that become too many later are the fault of the root.
+/// `TooMany` comes exactly where the root has more than 4,096 keys, and then no desk was touched; keys that become too many later are
+/// the fault of the root.
 pub fn resolve_all<
     R: Threads + Wait + Sync,
     W: World + Send + Sync,
@@ -162,6 +163,7 @@ pub fn resolve_all<
     ensures keeps { IfOk result (λ a. IsKeeping (state_of a.table) (root_end (state_of a.table)) (map pair_of a.keeps)) }
     ensures few { IfOk result (λ a. has_too_many (opening (term root)) ≡ false) }
     ensures too_many { IfErr result (λ f. f ≡ SessionFault.TooMany → has_too_many (opening (term root)) ≡ true) }
+    ensures alone { IfErr result (λ f. f ≡ SessionFault.TooMany → desks.new.items ≡ desks.old.items) }
 {
     let table = Table::open(alloc, root)?;
     let blanks = Blanks::new(u64::from(workers));

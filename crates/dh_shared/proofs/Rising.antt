@@ -3,10 +3,10 @@ use Rattle.std.specs.Prelude.{◌≡◌, ℕ, ◌+◌, Bool, true, false, cond, 
 use Rattle.std.proofs.Common.{ap, sym, ◌∙◌, subst, arith}
 use Rattle.std.proofs.lemmas.Bool.{false≢true}
 use Rattle.std.proofs.lemmas.List.Sums.{sum_by-append}
-use Rattle.dh_syntax.specs.Imports.Machine as machine
-use Rattle.dh_syntax.specs.Imports.Machine.{State, Task, InFlight, effect}
-use Rattle.dh_syntax.specs.Imports.Replay as replay
-use Rattle.dh_syntax.specs.Imports.Replay.{kind_of, root_end}
+use Rattle.dh_imports.specs.Machine as machine
+use Rattle.dh_imports.specs.Machine.{State, Task, InFlight, effect}
+use Rattle.dh_imports.specs.Replay as replay
+use Rattle.dh_imports.specs.Replay.{kind_of, root_end}
 use Rattle.dh_syntax.proofs.Bridge.{term-one_to_one}
 use Rattle.dh_syntax.proofs.Numbers.{eq-itself}
 use Rattle.dh_table.specs.declared.claims.Claimed.{Claimed}

@@ -1,6 +1,6 @@
 -- What is known of a table once all of its seats are back.
 use Rattle.std.specs.Prelude.{◌≡◌, ◌<◌, not, count_by, IsSome}
-use Rattle.dh_syntax.specs.Imports.Replay.{root_end}
+use Rattle.dh_imports.specs.Replay.{root_end}
 use Rattle.dh_table.specs.Calls.{failures}
 use Rattle.dh_table.specs.Shown.{Shown}
 use Rattle.dh_table.specs.States.{state_of}

@@ -1,7 +1,7 @@
 -- Words of private clauses alone: what the calls of a table add to the counts.
 use Rattle.std.specs.Prelude.{◌≡◌, ℕ, ◌+◌, Bool, true, false, cond, count_by, IsSome}
-use Rattle.dh_syntax.specs.Imports.Machine.{Task, InFlight}
-use Rattle.dh_syntax.specs.Imports.Replay.{kind_of, root_end}
+use Rattle.dh_imports.specs.Machine.{Task, InFlight}
+use Rattle.dh_imports.specs.Replay.{kind_of, root_end}
 use Rattle.dh_table.specs.declared.claims.Claimed.{Claimed}
 use Rattle.dh_table.specs.declared.claims.Claimed.TheVariants as claimed
 use Rattle.dh_table.specs.declared.deliveries.Taken.{Taken}

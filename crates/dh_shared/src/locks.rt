@@ -3,7 +3,7 @@
 ghost use Rattle.std.specs.Prelude.{◌≡◌, ◌+◌, ◌≤◌, ◌<◌, count_by, length, IsSome};
 ghost use Rattle.std.specs.Coded.{codes};
 ghost use Rattle.dh_syntax.specs.contracts.expressions.Expr as rows;
-ghost use Rattle.dh_syntax.specs.Imports.Replay.{root_end};
+ghost use Rattle.dh_imports.specs.Replay.{root_end};
 ghost use Rattle.dh_table.specs.Calls.{failures};
 ghost use Rattle.dh_table.specs.States.{state_of};
 ghost use Rattle.dh_shared.specs.Counting.{is_claim, is_fetch_claim, is_recorded, is_release, is_late};

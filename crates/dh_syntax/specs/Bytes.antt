@@ -5,3 +5,4 @@ pub mod BinaryItems
 pub mod BinaryLeaves
 pub mod BinaryRead
 pub mod Cbor
+pub mod Digests

@@ -1,15 +1,2 @@
-pub mod Freezing
-pub mod HonestCache
-pub mod Keeps
 pub mod Keys
-pub mod LastStep
 pub mod Locations
-pub mod Machine
-pub mod Outcomes
-pub mod Readings
-pub mod Records
-pub mod Replay
-pub mod Resolver
-pub mod RootEnds
-pub mod TextPaths
-pub mod Walk

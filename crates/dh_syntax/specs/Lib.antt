@@ -1,6 +1,6 @@
 pub mod Bytes
-pub mod Command
 pub mod Expressions
+pub mod FaultLines
 pub mod Imports
 pub mod Limits
 pub mod Names

@@ -1,7 +1,7 @@
 //! The one line of each fault, without its line feed: what `{}` writes.
 
 ghost use Rattle.std.specs.Prelude.{Some};
-ghost use Rattle.dh_syntax.specs.Command.FaultLines.{decode_fault_line, ill_line, norm_fault_line, parse_fault_line, path_text, type_fault_line};
+ghost use Rattle.dh_syntax.specs.FaultLines.{decode_fault_line, ill_line, norm_fault_line, parse_fault_line, path_text, type_fault_line};
 
 use crate::faults::{DecodeFault, Ill, NormFault, ParseFault, TypeFault};
 use std::error::Error;

@@ -11,7 +11,6 @@
 //! ```
 #![tactic(auto)]
 
-mod commands;
 mod copies;
 mod expressions;
 mod fault_lines;
@@ -21,16 +20,12 @@ mod limits;
 mod lists;
 mod locations;
 mod operators;
-mod outcomes;
 mod purses;
 mod shapes;
-mod statuses;
 mod texts;
 mod tokens;
 mod values;
-mod verbs;
 
-pub use commands::Command;
 pub use copies::{copy, copy_alts, copy_kids, copy_labels, copy_name, copy_path, copy_pieces};
 pub use expressions::{Alt, Alts, Expr, Kid, Kids, Labels, Op, Pieces};
 pub use faults::{DecodeFault, Ill, NormFault, ParseFault, Path, TypeFault};
@@ -42,11 +37,8 @@ pub use limits::{
 pub use lists::Many;
 pub use locations::{BoxedImport, Comps, Digest, Import, Key, Loc, Mode, Url};
 pub use operators::{BinOp, Builtin};
-pub use outcomes::{Blame, Origin, Outcome, Why};
 pub use purses::Purse;
 pub use shapes::{arity_ok, is_well_formed, nest, nest_of_kids};
-pub use statuses::Status;
 pub use texts::{Bytes, Label, Piece};
 pub use tokens::{Keyword, Mark, TextForm, Token, TokenKind};
 pub use values::assure_values;
-pub use verbs::Verb;

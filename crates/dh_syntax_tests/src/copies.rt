@@ -1,9 +1,9 @@
 //! That copies of every kind are made where memory is ample. Want of memory is free in their clauses, which say that a
 //! copy that is made is equal.
+use dh_imports::{Blame, Origin, Outcome, Why};
 use dh_syntax::{
-    Alt, BinOp, Blame, BoxedImport, Builtin, Bytes, Comps, Digest, Expr, Ill, Import, Key, Kid,
-    Label, Labels, Loc, Many, Mode, NormFault, Op, Origin, Outcome, ParseFault, Piece, TypeFault,
-    Url, Why,
+    Alt, BinOp, BoxedImport, Builtin, Bytes, Comps, Digest, Expr, Ill, Import, Key, Kid, Label,
+    Labels, Loc, Many, Mode, NormFault, Op, ParseFault, Piece, TypeFault, Url,
 };
 use std::alloc::{AllocError, Global};
 use std::test::Fail;

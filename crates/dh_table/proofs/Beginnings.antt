@@ -9,11 +9,11 @@ use Rattle.dh_syntax.specs.declared.locations.Loc.{Loc}
 use Rattle.dh_syntax.specs.Expressions.Bridge.{term}
 use Rattle.dh_syntax.specs.Expressions.Tree.{Term}
 use Rattle.dh_syntax.specs.Imports.Keys.{key_eq}
-use Rattle.dh_syntax.specs.Imports.Machine.{opening}
-use Rattle.dh_syntax.specs.Imports.Outcomes.{plain}
-use Rattle.dh_syntax.specs.Imports.Replay.{keys, distinct, with_bare}
-use Rattle.dh_syntax.specs.Imports.Resolver.{is_in}
-use Rattle.dh_syntax.specs.Imports.Walk.{keys_of}
+use Rattle.dh_imports.specs.Machine.{opening}
+use Rattle.dh_imports.specs.Outcomes.{plain}
+use Rattle.dh_imports.specs.Replay.{keys, distinct, with_bare}
+use Rattle.dh_imports.specs.Resolver.{is_in}
+use Rattle.dh_imports.specs.Walk.{keys_of}
 use Rattle.dh_syntax.specs.Limits.{most_keys}
 use Rattle.dh_demand.specs.declared.scans.Edge.{Edge}
 use Rattle.dh_demand.specs.declared.scans.Scan.{Scan}

@@ -4,16 +4,16 @@ use Rattle.std.proofs.Common.{ap, sym, ◌∙◌, subst}
 use Rattle.dh_syntax.specs.declared.expressions.Expr.{Expr}
 use Rattle.dh_syntax.specs.declared.locations.Key.{Key}
 use Rattle.dh_syntax.specs.declared.locations.Loc.{Loc}
-use Rattle.dh_syntax.specs.declared.outcomes.Blame.{Blame}
-use Rattle.dh_syntax.specs.declared.outcomes.Origin.{Origin}
-use Rattle.dh_syntax.specs.declared.outcomes.Outcome.TheVariants as variants
-use Rattle.dh_syntax.specs.declared.outcomes.Why.{Why}
-use Rattle.dh_syntax.specs.declared.outcomes.Why.TheVariants as whys
+use Rattle.dh_imports.specs.declared.outcomes.Blame.{Blame}
+use Rattle.dh_imports.specs.declared.outcomes.Origin.{Origin}
+use Rattle.dh_imports.specs.declared.outcomes.Outcome.TheVariants as variants
+use Rattle.dh_imports.specs.declared.outcomes.Why.{Why}
+use Rattle.dh_imports.specs.declared.outcomes.Why.TheVariants as whys
 use Rattle.dh_syntax.specs.Expressions.Bridge.{term}
 use Rattle.dh_syntax.specs.Expressions.Tree.{Term}
-use Rattle.dh_syntax.specs.Imports.Outcomes.{of_blame}
-use Rattle.dh_syntax.specs.Imports.Resolver.{of_bare, of_walk}
-use Rattle.dh_syntax.specs.Imports.Walk.{Walked, Ready, Fails, Turns, Needs, allowed, by_outcome, walk_key}
+use Rattle.dh_imports.specs.Outcomes.{of_blame}
+use Rattle.dh_imports.specs.Resolver.{of_bare, of_walk}
+use Rattle.dh_imports.specs.Walk.{Walked, Ready, Fails, Turns, Needs, allowed, by_outcome, walk_key}
 use Rattle.dh_laws.proofs.KeyOrder.{some-equal}
 use Rattle.dh_demand.specs.declared.ends.Next.TheVariants as next
 use Rattle.dh_demand.specs.declared.scans.Edge.{Edge}

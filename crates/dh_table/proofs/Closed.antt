@@ -4,7 +4,7 @@ use Rattle.std.proofs.Common.{ap, sym, ◌∙◌, subst, arith, inl, inr}
 use Rattle.dh_syntax.specs.Expressions.Nesting.{nesting}
 use Rattle.dh_syntax.specs.Expressions.Numbers.{bytes_eq, eq}
 use Rattle.dh_syntax.specs.Expressions.Tree.{Row, Leaf, Node, end, kid, Name, Var, Term}
-use Rattle.dh_syntax.specs.Imports.Records.{IsClosed}
+use Rattle.dh_imports.specs.Records.{IsClosed}
 use Rattle.dh_syntax.specs.Names.Indices.{IndicesBelow, RowIndicesBelow, count, with_binder, FreeIndicesBelow, RowFreeIndicesBelow}
 use Rattle.dh_syntax.specs.Names.Subst.{index_under, is_free, is_free_row}
 use Rattle.dh_syntax.proofs.Numbers.{bytes_eq-itself, eq-itself}

@@ -9,14 +9,14 @@ use Rattle.std.proofs.Math.Seq.{map-set_same}
 use Rattle.dh_syntax.specs.declared.faults.ParseFault.{ParseFault}
 use Rattle.dh_syntax.specs.declared.locations.Key.{Key}
 use Rattle.dh_syntax.specs.declared.locations.Loc.{Loc}
-use Rattle.dh_syntax.specs.declared.outcomes.Outcome as program
+use Rattle.dh_imports.specs.declared.outcomes.Outcome as program
 use Rattle.dh_syntax.specs.Expressions.Bridge.{term}
 use Rattle.dh_syntax.specs.Expressions.Tree.{Term}
 use Rattle.dh_syntax.specs.Imports.Keys.{bare, key_eq}
-use Rattle.dh_syntax.specs.Imports.Outcomes.{Outcome, plain}
-use Rattle.dh_syntax.specs.Imports.Records.{lookup, Record}
-use Rattle.dh_syntax.specs.Imports.Resolver.{is_in}
-use Rattle.dh_syntax.specs.Imports.Walk.{keys_of}
+use Rattle.dh_imports.specs.Outcomes.{Outcome, plain}
+use Rattle.dh_imports.specs.Records.{lookup, Record}
+use Rattle.dh_imports.specs.Resolver.{is_in}
+use Rattle.dh_imports.specs.Walk.{keys_of}
 use Rattle.dh_laws.proofs.KeyOrder.{true_false, none-some, some-equal, key_eq-true, key_eq-itself}
 use Rattle.dh_demand.specs.declared.scans.Edge.{Edge}
 use Rattle.dh_demand.specs.declared.scans.Scan.{Scan}
@@ -24,10 +24,10 @@ use Rattle.dh_demand.specs.Results.{number_of, outcome_at, ask_of}
 use Rattle.dh_demand.specs.Scans.{Begins, Fits}
 use Rattle.dh_demand.proofs.Numbers.{stands}
 use Rattle.dh_import_laws.proofs.Facts.{limits_are_licensed}
-use Rattle.dh_syntax.specs.declared.outcomes.Why.{Why}
-use Rattle.dh_syntax.specs.Imports.Machine.{State, Event, Lawful, after_all, outcome_of, with_outcome, Task, with_limit}
-use Rattle.dh_syntax.specs.Imports.Replay as replay
-use Rattle.dh_syntax.specs.Imports.Walk.{Ask}
+use Rattle.dh_imports.specs.declared.outcomes.Why.{Why}
+use Rattle.dh_imports.specs.Machine.{State, Event, Lawful, after_all, outcome_of, with_outcome, Task, with_limit}
+use Rattle.dh_imports.specs.Replay as replay
+use Rattle.dh_imports.specs.Walk.{Ask}
 use Rattle.dh_table.specs.declared.steps.Flight.{Flight}
 use Rattle.dh_table.specs.declared.steps.Job.{Job}
 use Rattle.dh_table.specs.declared.steps.Step.{Step}

@@ -3,8 +3,8 @@ use Rattle.std.specs.Prelude.{◌≡◌, ◌≤◌, suc, Bool, true, false, ◌|
 use Rattle.std.proofs.Common.{ap, sym, ◌∙◌, subst, arith}
 use Rattle.dh_syntax.specs.declared.locations.Key.{Key}
 use Rattle.dh_syntax.specs.Imports.Keys.{bare, key_eq}
-use Rattle.dh_syntax.specs.Imports.Replay.{with_bare, distinct}
-use Rattle.dh_syntax.specs.Imports.Resolver.{is_in}
+use Rattle.dh_imports.specs.Replay.{with_bare, distinct}
+use Rattle.dh_imports.specs.Resolver.{is_in}
 use Rattle.dh_laws.proofs.KeyOrder.{true_false, key_eq-true, key_eq-itself}
 use Rattle.dh_table.specs.Inside.Entering.{with_key, entered, entered_all, AreDistinct}
 

@@ -6,18 +6,18 @@ use Rattle.std.proofs.lemmas.List.Elements.{All-head, All-tail}
 use Rattle.dh_syntax.specs.declared.locations.Digest.{Digest}
 use Rattle.dh_syntax.specs.declared.locations.Key.{Key}
 use Rattle.dh_syntax.specs.declared.locations.Loc.{Loc}
-use Rattle.dh_syntax.specs.declared.outcomes.Blame.{Blame}
-use Rattle.dh_syntax.specs.declared.outcomes.Origin.{Origin}
-use Rattle.dh_syntax.specs.declared.outcomes.Outcome as program
-use Rattle.dh_syntax.specs.declared.outcomes.Outcome.TheVariants as variants
+use Rattle.dh_imports.specs.declared.outcomes.Blame.{Blame}
+use Rattle.dh_imports.specs.declared.outcomes.Origin.{Origin}
+use Rattle.dh_imports.specs.declared.outcomes.Outcome as program
+use Rattle.dh_imports.specs.declared.outcomes.Outcome.TheVariants as variants
 use Rattle.dh_syntax.specs.Expressions.Bridge.{term}
 use Rattle.dh_syntax.specs.Expressions.Spellable.{IsSpellable, names_spellable, row_spellable, op_spellable, binder_spellable, is_label}
 use Rattle.dh_syntax.specs.Expressions.Tree.{Row, Leaf, Node, end, kid, Name, Var, Term}
 use Rattle.dh_syntax.specs.Imports.Keys.{bare, key_eq}
-use Rattle.dh_syntax.specs.Imports.Machine.{IsDue}
-use Rattle.dh_syntax.specs.Imports.Outcomes.{Outcome, Good, Bad, Loop, plain, of_blame}
-use Rattle.dh_syntax.specs.Imports.Resolver.{of_bare, of_plan, plan_look}
-use Rattle.dh_syntax.specs.Imports.Walk.{Walked, Ready, Fails, Turns, Needs, walk}
+use Rattle.dh_imports.specs.Machine.{IsDue}
+use Rattle.dh_imports.specs.Outcomes.{Outcome, Good, Bad, Loop, plain, of_blame}
+use Rattle.dh_imports.specs.Resolver.{of_bare, of_plan, plan_look}
+use Rattle.dh_imports.specs.Walk.{Walked, Ready, Fails, Turns, Needs, walk}
 use Rattle.dh_syntax.specs.Limits.{most_index}
 use Rattle.dh_syntax.specs.Names.Indices.{IndicesBelow, RowIndicesBelow}
 use Rattle.dh_syntax.proofs.Numbers.{and-true_left, and-true_right}

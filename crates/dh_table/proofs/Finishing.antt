@@ -2,18 +2,18 @@
 use Rattle.std.specs.Prelude.{◌≡◌, ◌<◌, ◌≤◌, ◌+◌, ◌-◌, ◌++◌, min, ℕ, Bool, true, false, if◌then◌else◌, List, [], ◌∷◌, All, Some, None, refl}
 use Rattle.std.proofs.Common.{ap, sym, ◌∙◌, subst, arith}
 use Rattle.dh_syntax.specs.declared.locations.Key.{Key}
-use Rattle.dh_syntax.specs.declared.outcomes.Outcome as program
-use Rattle.dh_syntax.specs.declared.outcomes.Outcome.TheVariants as variants
-use Rattle.dh_syntax.specs.declared.outcomes.Why.{Why}
+use Rattle.dh_imports.specs.declared.outcomes.Outcome as program
+use Rattle.dh_imports.specs.declared.outcomes.Outcome.TheVariants as variants
+use Rattle.dh_imports.specs.declared.outcomes.Why.{Why}
 use Rattle.dh_syntax.specs.Expressions.Tree.{Term}
-use Rattle.dh_syntax.specs.Imports.LastStep as last
-use Rattle.dh_syntax.specs.Imports.LastStep.{own, last_step}
-use Rattle.dh_syntax.specs.Imports.Machine as machine
-use Rattle.dh_syntax.specs.Imports.Machine.{Task, State, News, InFlight, IsDone, outcome_of}
-use Rattle.dh_syntax.specs.Imports.Outcomes.{Outcome, Good, Bad, Loop, plain, of_blame}
-use Rattle.dh_syntax.specs.Imports.Records.{Record, limit_at, IsLimitOf}
-use Rattle.dh_syntax.specs.Imports.Replay.{Replays, Step}
-use Rattle.dh_syntax.specs.Imports.Resolver.{Stage, Lacks, Has, Meets, Waits, ended, unless_limit}
+use Rattle.dh_imports.specs.LastStep as last
+use Rattle.dh_imports.specs.LastStep.{own, last_step}
+use Rattle.dh_imports.specs.Machine as machine
+use Rattle.dh_imports.specs.Machine.{Task, State, News, InFlight, IsDone, outcome_of}
+use Rattle.dh_imports.specs.Outcomes.{Outcome, Good, Bad, Loop, plain, of_blame}
+use Rattle.dh_imports.specs.Records.{Record, limit_at, IsLimitOf}
+use Rattle.dh_imports.specs.Replay.{Replays, Step}
+use Rattle.dh_imports.specs.Resolver.{Stage, Lacks, Has, Meets, Waits, ended, unless_limit}
 use Rattle.dh_demand.proofs.Visiting.{Blamed, fault, looped, blamed}
 use Rattle.dh_import_laws.proofs.Facts.{in_flight_unrecorded}
 use Rattle.dh_table.specs.declared.items.Item.{Item}

@@ -4,7 +4,7 @@ use Rattle.std.proofs.Common.{sym, subst}
 use Rattle.std.proofs.lemmas.List.{get_or_append_left}
 use Rattle.std.proofs.lemmas.List.Elements.{All-nil, All-append, All-filter, All-set, All-weaker}
 use Rattle.dh_syntax.specs.declared.locations.Key.{Key}
-use Rattle.dh_syntax.specs.declared.outcomes.Outcome as program
+use Rattle.dh_imports.specs.declared.outcomes.Outcome as program
 use Rattle.dh_table.specs.declared.steps.Flight.{Flight}
 use Rattle.dh_table.specs.declared.texts.Entrant.{Entrant}
 use Rattle.dh_table.specs.Inside.Due.{IsValued}

@@ -2,8 +2,8 @@
 use Rattle.std.specs.Prelude.{◌≡◌, List, [], ◌∷◌, ◌++◌}
 use Rattle.std.proofs.Common.{ap, sym, ◌∙◌, subst}
 use Rattle.dh_syntax.specs.Expressions.Tree.{Term}
-use Rattle.dh_syntax.specs.Imports.Machine.{Task, State, Event, News, May, effect, after_all}
-use Rattle.dh_syntax.specs.Imports.Replay.{Step, step_of, steps, late_news, Replays}
+use Rattle.dh_imports.specs.Machine.{Task, State, Event, News, May, effect, after_all}
+use Rattle.dh_imports.specs.Replay.{Step, step_of, steps, late_news, Replays}
 
 -- a history and a state that are one step further
 pub further : (root : Term) (drawn : List Task) (news : List News) (history : List Step) (s : State) → Replays root drawn news history s

@@ -6,19 +6,19 @@ use Rattle.std.proofs.lemmas.List.Elements.{All-get_or}
 use Rattle.dh_syntax.specs.declared.expressions.Expr.{Expr}
 use Rattle.dh_syntax.specs.declared.locations.Digest.{Digest}
 use Rattle.dh_syntax.specs.declared.locations.Key.{Key}
-use Rattle.dh_syntax.specs.declared.outcomes.Origin.{Origin}
-use Rattle.dh_syntax.specs.declared.outcomes.Outcome as program
-use Rattle.dh_syntax.specs.declared.outcomes.Outcome.TheVariants as variants
+use Rattle.dh_imports.specs.declared.outcomes.Origin.{Origin}
+use Rattle.dh_imports.specs.declared.outcomes.Outcome as program
+use Rattle.dh_imports.specs.declared.outcomes.Outcome.TheVariants as variants
 use Rattle.dh_syntax.specs.Bytes.Binary.{enc}
 use Rattle.dh_syntax.specs.Expressions.Bridge.{term}
 use Rattle.dh_syntax.specs.Expressions.Tree.{Term}
-use Rattle.dh_syntax.specs.Imports.Keeps.{Visited, by_root, by_key, asked_by, IsFresh, IsLeastFresh, IsKept, AreKeeps}
+use Rattle.dh_imports.specs.Keeps.{Visited, by_root, by_key, asked_by, IsFresh, IsLeastFresh, IsKept, AreKeeps}
 use Rattle.dh_syntax.specs.Imports.Keys.{key_le, digest_rank}
-use Rattle.dh_syntax.specs.Imports.Machine.{IsAmong, State, Event, Lawful, after_all, outcome_of}
-use Rattle.dh_syntax.specs.Imports.Outcomes.{Outcome, Good, Bad, Loop, plain, of_blame}
-use Rattle.dh_syntax.specs.Imports.Records.{Record}
-use Rattle.dh_syntax.specs.Imports.Resolver.{resolve}
-use Rattle.dh_syntax.specs.Imports.Walk.{Ask, Ready, walk}
+use Rattle.dh_imports.specs.Machine.{IsAmong, State, Event, Lawful, after_all, outcome_of}
+use Rattle.dh_imports.specs.Outcomes.{Outcome, Good, Bad, Loop, plain, of_blame}
+use Rattle.dh_imports.specs.Records.{Record}
+use Rattle.dh_imports.specs.Resolver.{resolve}
+use Rattle.dh_imports.specs.Walk.{Ask, Ready, walk}
 use Rattle.dh_syntax.specs.Names.Alpha.{alpha}
 use Rattle.dh_laws.proofs.KeyOrder.{none-some, some-equal, key_le-antisymmetric}
 use Rattle.dh_import_laws.proofs.Visits.{visits_are_resolved}

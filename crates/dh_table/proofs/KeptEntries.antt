@@ -5,19 +5,19 @@ use Rattle.std.proofs.lemmas.List.{take_more, get_or-take, length-take}
 use Rattle.std.proofs.lemmas.List.Elements.{All-get_or}
 use Rattle.dh_syntax.specs.declared.expressions.Expr.{Expr}
 use Rattle.dh_syntax.specs.declared.locations.Digest.{Digest}
-use Rattle.dh_syntax.specs.declared.outcomes.Origin.{Origin}
-use Rattle.dh_syntax.specs.declared.outcomes.Outcome as program
-use Rattle.dh_syntax.specs.declared.outcomes.Outcome.TheVariants as variants
-use Rattle.dh_syntax.specs.declared.outcomes.Outcome.TheVariants.{Good, Bad}
+use Rattle.dh_imports.specs.declared.outcomes.Origin.{Origin}
+use Rattle.dh_imports.specs.declared.outcomes.Outcome as program
+use Rattle.dh_imports.specs.declared.outcomes.Outcome.TheVariants as variants
+use Rattle.dh_imports.specs.declared.outcomes.Outcome.TheVariants.{Good, Bad}
 use Rattle.dh_syntax.specs.Bytes.Binary.{enc}
 use Rattle.dh_syntax.specs.Expressions.Bridge.{term}
 use Rattle.dh_syntax.specs.Expressions.Nesting.{nesting}
 use Rattle.dh_syntax.specs.Expressions.Numbers.{bytes_eq}
 use Rattle.dh_syntax.specs.Expressions.Order.{before, ascending}
 use Rattle.dh_syntax.specs.Expressions.Tree.{Term}
-use Rattle.dh_syntax.specs.Imports.Keeps.{digests_of}
+use Rattle.dh_imports.specs.Keeps.{digests_of}
 use Rattle.dh_syntax.specs.Imports.Keys.{digest_rank, texts_before}
-use Rattle.dh_syntax.specs.Imports.Machine.{IsAmong}
+use Rattle.dh_imports.specs.Machine.{IsAmong}
 use Rattle.dh_syntax.specs.Names.Alpha.{alpha}
 use Rattle.dh_syntax.specs.Names.Indices.{IndicesBelow}
 use Rattle.dh_syntax.proofs.Numbers.{and-true_left, and-true_right}

@@ -5,7 +5,7 @@ use Rattle.std.proofs.Common.{ap, sym, ◌∙◌, subst, arith, inl, inr, get_or
 use Rattle.std.proofs.lemmas.List.{length-map, get_or-map}
 use Rattle.dh_syntax.specs.declared.locations.Key.{Key}
 use Rattle.dh_syntax.specs.Imports.Keys.{key_eq, texts_before}
-use Rattle.dh_syntax.specs.Imports.Machine.{IsAmong}
+use Rattle.dh_imports.specs.Machine.{IsAmong}
 use Rattle.dh_laws.proofs.KeyOrder.{bool-case, true_false, none-some, key_eq-true, key_eq-itself}
 use Rattle.dh_demand.specs.Results.{number_of}
 use Rattle.dh_table.specs.declared.texts.Entrant.{Entrant}

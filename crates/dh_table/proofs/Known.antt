@@ -3,14 +3,14 @@ use Rattle.std.specs.Prelude.{◌≡◌, ◌⊎◌, ◌<◌, ◌≤◌, ◌+◌,
 use Rattle.std.proofs.Common.{ap, sym, ◌∙◌, subst, arith, inl, inr}
 use Rattle.dh_syntax.specs.declared.locations.Key.{Key}
 use Rattle.dh_syntax.specs.Expressions.Tree.{Term}
-use Rattle.dh_syntax.specs.Imports.Machine as machine
-use Rattle.dh_syntax.specs.Imports.Machine.{IsAmong, Task, State, Event, IsDue, IsOpen, May, Wanted, by_root, by_key, effect, after_all, leads_by, leads_to, outcome_of, root_walk, stage_of}
-use Rattle.dh_syntax.specs.Imports.Outcomes.{Outcome, Good, Bad, Loop}
+use Rattle.dh_imports.specs.Machine as machine
+use Rattle.dh_imports.specs.Machine.{IsAmong, Task, State, Event, IsDue, IsOpen, May, Wanted, by_root, by_key, effect, after_all, leads_by, leads_to, outcome_of, root_walk, stage_of}
+use Rattle.dh_imports.specs.Outcomes.{Outcome, Good, Bad, Loop}
 use Rattle.dh_syntax.specs.Imports.Keys.{key_eq}
-use Rattle.dh_syntax.specs.Imports.Records.{lookup}
-use Rattle.dh_syntax.specs.Imports.Replay.{Replays, Step, has_too_many, root_end}
-use Rattle.dh_syntax.specs.Imports.Resolver.{TextOf, LookOf, Plan, Unknown, Now, Walks, Asks, plan, of_walk, of_bare, of_plan}
-use Rattle.dh_syntax.specs.Imports.Walk.{Ask, Walked, Ready, Fails, Turns, Needs, course, ending_by, undecided, walk, wants}
+use Rattle.dh_imports.specs.Records.{lookup}
+use Rattle.dh_imports.specs.Replay.{Replays, Step, has_too_many, root_end}
+use Rattle.dh_imports.specs.Resolver.{TextOf, LookOf, Plan, Unknown, Now, Walks, Asks, plan, of_walk, of_bare, of_plan}
+use Rattle.dh_imports.specs.Walk.{Ask, Walked, Ready, Fails, Turns, Needs, course, ending_by, undecided, walk, wants}
 use Rattle.dh_laws.proofs.KeyOrder.{none-some}
 use Rattle.dh_import_laws.proofs.Facts.{Grows, step-grows}
 use Rattle.dh_import_laws.proofs.Grow.{Longer as Longer', longer-itself, PlanGrown, plan-grown}

@@ -5,11 +5,11 @@ use Rattle.std.proofs.lemmas.List.Sums.{sum_by-cons}
 use Rattle.dh_syntax.specs.declared.locations.Digest.{Digest}
 use Rattle.dh_syntax.specs.declared.locations.Loc.{Loc}
 use Rattle.dh_syntax.specs.Expressions.Tree.{Term}
-use Rattle.dh_syntax.specs.Imports.Machine as machine
-use Rattle.dh_syntax.specs.Imports.Machine.{Task, State, Event, News, InFlight, May, effect, after_all, root_walk, without}
-use Rattle.dh_syntax.specs.Imports.Records as found
-use Rattle.dh_syntax.specs.Imports.Replay.{Replays, Step, has_too_many, root_end, end_of, too_many}
-use Rattle.dh_syntax.specs.Imports.Walk.{Walked, Ready, Fails, Turns, Needs}
+use Rattle.dh_imports.specs.Machine as machine
+use Rattle.dh_imports.specs.Machine.{Task, State, Event, News, InFlight, May, effect, after_all, root_walk, without}
+use Rattle.dh_imports.specs.Records as found
+use Rattle.dh_imports.specs.Replay.{Replays, Step, has_too_many, root_end, end_of, too_many}
+use Rattle.dh_imports.specs.Walk.{Walked, Ready, Fails, Turns, Needs}
 use Rattle.dh_import_laws.specs.ImportLaws.{IsDecided}
 use Rattle.dh_import_laws.proofs.Counts.{too_many_stay}
 use Rattle.dh_import_laws.proofs.Facts.{root_stays}

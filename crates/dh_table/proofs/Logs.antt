@@ -7,8 +7,8 @@ use Rattle.std.proofs.lemmas.Bool.Decides.{eqb_tells}
 use Rattle.std.proofs.lemmas.List.{reverse-append, length-reverse, length-map, map-append, take_all, take_more}
 use Rattle.std.proofs.lemmas.List.Elements.{filter-append}
 use Rattle.dh_syntax.specs.Expressions.Numbers.{eq}
-use Rattle.dh_syntax.specs.Imports.Machine.{Task, without}
-use Rattle.dh_syntax.specs.Imports.Records.{lookup}
+use Rattle.dh_imports.specs.Machine.{Task, without}
+use Rattle.dh_imports.specs.Records.{lookup}
 use Rattle.dh_syntax.proofs.NativeTests.{eq-native}
 use Rattle.dh_table.specs.declared.steps.Flight.{Flight}
 use Rattle.dh_table.specs.declared.steps.Job.{Job}

@@ -4,9 +4,9 @@ use Rattle.std.proofs.Common.{ap, sym, ◌∙◌, subst, arith, inl, inr}
 use Rattle.std.proofs.lemmas.List.Folds.{sum_by-replicate}
 use Rattle.dh_syntax.specs.declared.locations.Key.{Key}
 use Rattle.dh_syntax.specs.Imports.Keys.{key_eq}
-use Rattle.dh_syntax.specs.Imports.Machine.{State, Blocks, outcome_of, stage_of, root_walk}
-use Rattle.dh_syntax.specs.Imports.Resolver.{Stage, TextOf, LookOf, Lacks, Has, Meets, Waits, stage, is_in, least_back_to}
-use Rattle.dh_syntax.specs.Imports.Walk.{Needs}
+use Rattle.dh_imports.specs.Machine.{State, Blocks, outcome_of, stage_of, root_walk}
+use Rattle.dh_imports.specs.Resolver.{Stage, TextOf, LookOf, Lacks, Has, Meets, Waits, stage, is_in, least_back_to}
+use Rattle.dh_imports.specs.Walk.{Needs}
 use Rattle.dh_laws.proofs.KeyOrder.{none-some, key_eq-itself}
 use Rattle.dh_import_laws.proofs.Graph.{Way, Trail, ring-found, joined}
 use Rattle.dh_import_laws.proofs.Plans.{wanted-undecided}

@@ -6,10 +6,10 @@ use Rattle.std.proofs.lemmas.List.{map-append, length-append, length-map, take-a
 use Rattle.std.proofs.lemmas.List.Elements.{All-append, All-nil, All-cons, All-weaker}
 use Rattle.dh_syntax.specs.declared.locations.Key.{Key}
 use Rattle.dh_syntax.specs.declared.locations.Loc.{Loc}
-use Rattle.dh_syntax.specs.declared.outcomes.Outcome as program
+use Rattle.dh_imports.specs.declared.outcomes.Outcome as program
 use Rattle.dh_syntax.specs.Imports.Keys.{bare, key_eq}
 use Rattle.dh_syntax.specs.Imports.Locations.{loc_text}
-use Rattle.dh_syntax.specs.Imports.Resolver.{is_in}
+use Rattle.dh_imports.specs.Resolver.{is_in}
 use Rattle.dh_laws.proofs.KeyOrder.{none-some, key_eq-itself}
 use Rattle.dh_demand.specs.declared.scans.Edge.{Edge}
 use Rattle.dh_demand.specs.Results.{Row, number_of}

@@ -8,10 +8,10 @@ use Rattle.dh_syntax.specs.Expressions.Bridge.{term}
 use Rattle.dh_syntax.specs.Expressions.Numbers.{bytes_eq}
 use Rattle.dh_syntax.specs.Expressions.SameTree.{option_eq, term_eq}
 use Rattle.dh_syntax.specs.Expressions.Tree.{Term}
-use Rattle.dh_syntax.specs.Imports.LastStep as last
-use Rattle.dh_syntax.specs.Imports.Resolver.{Has, of_plan, of_walk, plan_text}
-use Rattle.dh_syntax.specs.Imports.Records as found
-use Rattle.dh_syntax.specs.Imports.Walk.{Ask, walk}
+use Rattle.dh_imports.specs.LastStep as last
+use Rattle.dh_imports.specs.Resolver.{Has, of_plan, of_walk, plan_text}
+use Rattle.dh_imports.specs.Records as found
+use Rattle.dh_imports.specs.Walk.{Ask, walk}
 use Rattle.dh_ports.specs.declared.worlds.Found.{Found}
 use Rattle.dh_ports.specs.declared.worlds.Got.{Got}
 use Rattle.dh_ports.specs.declared.worlds.Got.TheVariants as gots

@@ -3,13 +3,13 @@ use Rattle.std.specs.Prelude.{◌≡◌, ◌⊎◌, ◌<◌, ℕ, if◌then◌el
 use Rattle.std.specs.Option.{option_map}
 use Rattle.std.proofs.Common.{ap, sym, ◌∙◌, subst, inl, inr, Bor}
 use Rattle.dh_syntax.specs.declared.locations.Key.{Key}
-use Rattle.dh_syntax.specs.declared.outcomes.Outcome as program
+use Rattle.dh_imports.specs.declared.outcomes.Outcome as program
 use Rattle.dh_syntax.specs.Expressions.Bridge.{term}
 use Rattle.dh_syntax.specs.Expressions.Tree.{Term}
-use Rattle.dh_syntax.specs.Imports.Machine.{IsAmong, leads_by}
-use Rattle.dh_syntax.specs.Imports.Outcomes.{Outcome, Good, Bad, Loop, plain}
-use Rattle.dh_syntax.specs.Imports.Resolver.{Plan, TextOf, LookOf, Unknown, Now, Walks, Asks, of_plan, of_bare, of_walk}
-use Rattle.dh_syntax.specs.Imports.Walk.{Walked, Ready, Fails, Turns, Needs, walk, wants}
+use Rattle.dh_imports.specs.Machine.{IsAmong, leads_by}
+use Rattle.dh_imports.specs.Outcomes.{Outcome, Good, Bad, Loop, plain}
+use Rattle.dh_imports.specs.Resolver.{Plan, TextOf, LookOf, Unknown, Now, Walks, Asks, of_plan, of_bare, of_walk}
+use Rattle.dh_imports.specs.Walk.{Walked, Ready, Fails, Turns, Needs, walk, wants}
 use Rattle.dh_laws.proofs.KeyOrder.{some-equal}
 use Rattle.dh_demand.specs.declared.ends.Next.{Next}
 use Rattle.dh_demand.specs.declared.ends.Next.TheVariants as next

@@ -1,7 +1,7 @@
 -- What found bytes spell is the expression that a table keeps of them.
 use Rattle.std.specs.Prelude.{◌≡◌, ℕ, List, Option, Some, Result, Ok, Err, IfOk}
 use Rattle.dh_syntax.specs.Expressions.Tree.{Term}
-use Rattle.dh_syntax.specs.Imports.Records.{Found}
+use Rattle.dh_imports.specs.Records.{Found}
 use Rattle.dh_ports.specs.declared.worlds.Got.TheVariants as gots
 use Rattle.dh_table.specs.declared.news.Noted.{Noted}
 use Rattle.dh_table.specs.declared.news.Noted.TheVariants as noteds

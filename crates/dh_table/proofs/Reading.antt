@@ -8,13 +8,13 @@ use Rattle.dh_syntax.specs.declared.locations.Key.{Key}
 use Rattle.dh_syntax.specs.declared.locations.Loc.{Loc}
 use Rattle.dh_syntax.specs.declared.locations.Mode.{Mode}
 use Rattle.dh_syntax.specs.declared.locations.Mode.TheVariants as modes
-use Rattle.dh_syntax.specs.declared.outcomes.Why.{Why}
+use Rattle.dh_imports.specs.declared.outcomes.Why.{Why}
 use Rattle.dh_syntax.specs.Expressions.Tree.{Term}
 use Rattle.dh_syntax.specs.Imports.Keys.{key_eq}
-use Rattle.dh_syntax.specs.Imports.Machine.{IsAmong}
-use Rattle.dh_syntax.specs.Imports.Records.{Record, lookup}
-use Rattle.dh_syntax.specs.Imports.Resolver.{plan, plan_fetch, plan_mode, plan_digest, unfetched}
-use Rattle.dh_syntax.specs.Imports.Walk.{Ask, course, wants, keys_of, place}
+use Rattle.dh_imports.specs.Machine.{IsAmong}
+use Rattle.dh_imports.specs.Records.{Record, lookup}
+use Rattle.dh_imports.specs.Resolver.{plan, plan_fetch, plan_mode, plan_digest, unfetched}
+use Rattle.dh_imports.specs.Walk.{Ask, course, wants, keys_of, place}
 use Rattle.dh_laws.proofs.KeyOrder.{none-some, key_eq-true}
 use Rattle.dh_import_laws.proofs.Wants.{asked-keys}
 use Rattle.dh_demand.specs.declared.scans.Edge.{Edge}

@@ -7,9 +7,9 @@ use Rattle.dh_syntax.specs.declared.locations.Loc.{Loc}
 use Rattle.dh_syntax.specs.Expressions.Bridge.{term}
 use Rattle.dh_syntax.specs.Expressions.SameTree.{digest_eq, loc_eq}
 use Rattle.dh_syntax.specs.Imports.Keys.{loc_rank}
-use Rattle.dh_syntax.specs.Imports.Machine as machine
-use Rattle.dh_syntax.specs.Imports.Machine.{InFlight}
-use Rattle.dh_syntax.specs.Imports.Records.{lookup}
+use Rattle.dh_imports.specs.Machine as machine
+use Rattle.dh_imports.specs.Machine.{InFlight}
+use Rattle.dh_imports.specs.Records.{lookup}
 use Rattle.dh_syntax.proofs.SameTree.{digests_tell, locs_tell}
 use Rattle.dh_laws.proofs.KeyOrder.{bool-case, true_false, none-some}
 use Rattle.dh_import_laws.proofs.Facts.{in_flight_unrecorded}

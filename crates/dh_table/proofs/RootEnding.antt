@@ -3,15 +3,15 @@ use Rattle.std.specs.Prelude.{◌≡◌, ℕ, Bool, true, false, if◌then◌els
 use Rattle.std.proofs.Common.{sym, subst}
 use Rattle.dh_syntax.specs.declared.expressions.Expr.{Expr}
 use Rattle.dh_syntax.specs.declared.locations.Digest.{Digest}
-use Rattle.dh_syntax.specs.declared.outcomes.Blame.{Blame}
-use Rattle.dh_syntax.specs.declared.outcomes.Why.TheVariants as whys
+use Rattle.dh_imports.specs.declared.outcomes.Blame.{Blame}
+use Rattle.dh_imports.specs.declared.outcomes.Why.TheVariants as whys
 use Rattle.dh_syntax.specs.Expressions.Bridge.{term}
 use Rattle.dh_syntax.specs.Expressions.Tree.{Term}
-use Rattle.dh_syntax.specs.Imports.Keeps.{AreKeeps}
-use Rattle.dh_syntax.specs.Imports.Machine.{State, root_walk}
-use Rattle.dh_syntax.specs.Imports.Replay.{RootEnd, too_many, has_too_many, root_end, end_of}
-use Rattle.dh_syntax.specs.Imports.Resolver.{resolve}
-use Rattle.dh_syntax.specs.Imports.Walk.{Walked, Ready, Fails, Turns, Needs}
+use Rattle.dh_imports.specs.Keeps.{AreKeeps}
+use Rattle.dh_imports.specs.Machine.{State, root_walk}
+use Rattle.dh_imports.specs.Replay.{RootEnd, too_many, has_too_many, root_end, end_of}
+use Rattle.dh_imports.specs.Resolver.{resolve}
+use Rattle.dh_imports.specs.Walk.{Walked, Ready, Fails, Turns, Needs}
 use Rattle.dh_table.specs.declared.roots.Ended.{Ended}
 use Rattle.dh_table.specs.declared.roots.Ended.TheVariants as ends
 use Rattle.dh_table.specs.Inside.Due.{IsBlame}

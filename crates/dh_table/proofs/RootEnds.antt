@@ -4,13 +4,13 @@ use Rattle.std.specs.Option.{option_map}
 use Rattle.std.proofs.Common.{ap, sym, ◌∙◌, subst}
 use Rattle.std.proofs.lemmas.List.{length-map}
 use Rattle.dh_syntax.specs.declared.locations.Key.{Key}
-use Rattle.dh_syntax.specs.declared.outcomes.Outcome as program
+use Rattle.dh_imports.specs.declared.outcomes.Outcome as program
 use Rattle.dh_syntax.specs.Imports.Keys.{key_eq}
-use Rattle.dh_syntax.specs.Imports.Outcomes.{plain}
+use Rattle.dh_imports.specs.Outcomes.{plain}
 use Rattle.dh_laws.proofs.KeyOrder.{none-some, some-equal}
-use Rattle.dh_syntax.specs.Imports.Machine.{State, root_walk}
-use Rattle.dh_syntax.specs.Imports.Replay.{too_many, distinct, has_too_many, root_end, end_of}
-use Rattle.dh_syntax.specs.Imports.Walk.{Walked, Ready, Fails, Turns, Needs}
+use Rattle.dh_imports.specs.Machine.{State, root_walk}
+use Rattle.dh_imports.specs.Replay.{too_many, distinct, has_too_many, root_end, end_of}
+use Rattle.dh_imports.specs.Walk.{Walked, Ready, Fails, Turns, Needs}
 use Rattle.dh_demand.specs.declared.ends.Next.TheVariants as next
 use Rattle.dh_demand.specs.declared.scans.Scan.{Scan}
 use Rattle.dh_demand.specs.Nexts.{IsNext}

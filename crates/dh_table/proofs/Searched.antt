@@ -9,12 +9,12 @@ use Rattle.std.proofs.lemmas.List.Sums.{sum_by-cons, sum_by-set}
 use Rattle.std.proofs.Math.ListN.{get_or-eq_default}
 use Rattle.dh_syntax.specs.declared.locations.Key.{Key}
 use Rattle.dh_syntax.specs.declared.locations.Loc.{Loc}
-use Rattle.dh_syntax.specs.declared.outcomes.Outcome as program
+use Rattle.dh_imports.specs.declared.outcomes.Outcome as program
 use Rattle.dh_syntax.specs.Expressions.Tree.{Term}
-use Rattle.dh_syntax.specs.Imports.Machine.{IsAmong, Task, State, IsOpen, Wanted, by_root, by_key, leads_by, leads_to, outcome_of}
-use Rattle.dh_syntax.specs.Imports.Outcomes.{plain}
-use Rattle.dh_syntax.specs.Imports.Resolver.{Plan, Stage, plan, stage}
-use Rattle.dh_syntax.specs.Imports.Walk.{Ask, course, keys_of, place, wants}
+use Rattle.dh_imports.specs.Machine.{IsAmong, Task, State, IsOpen, Wanted, by_root, by_key, leads_by, leads_to, outcome_of}
+use Rattle.dh_imports.specs.Outcomes.{plain}
+use Rattle.dh_imports.specs.Resolver.{Plan, Stage, plan, stage}
+use Rattle.dh_imports.specs.Walk.{Ask, course, keys_of, place, wants}
 use Rattle.dh_laws.proofs.KeyOrder.{none-some, some-equal}
 use Rattle.dh_import_laws.proofs.Plans.{wanted-undecided}
 use Rattle.dh_import_laws.proofs.Wants.{asked-keys}

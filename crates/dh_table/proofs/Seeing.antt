@@ -8,12 +8,12 @@ use Rattle.std.proofs.lemmas.Bool.{cases_lt, false≢true}
 use Rattle.std.proofs.lemmas.List.Sums.{sum_by-set}
 use Rattle.dh_syntax.specs.declared.locations.Key.{Key}
 use Rattle.dh_syntax.specs.Expressions.Numbers.{eq}
-use Rattle.dh_syntax.specs.Imports.Machine as machine
-use Rattle.dh_syntax.specs.Imports.Machine.{IsAmong, Task, State, InFlight, IsOpen, TaskOf, looks, fetches, finishes, IsDue, Wanted, by_root, by_key, leads_to, outcome_of, stage_of}
-use Rattle.dh_syntax.specs.Imports.Records.{lookup}
-use Rattle.dh_syntax.specs.Imports.Resolver.{plan, of_plan, stage, Stage, TextOf, LookOf, Lacks, Has, Meets, Waits}
-use Rattle.dh_syntax.specs.Imports.Walk.{wants}
-use Rattle.dh_syntax.specs.Imports.Machine.{leads_by}
+use Rattle.dh_imports.specs.Machine as machine
+use Rattle.dh_imports.specs.Machine.{IsAmong, Task, State, InFlight, IsOpen, TaskOf, looks, fetches, finishes, IsDue, Wanted, by_root, by_key, leads_to, outcome_of, stage_of}
+use Rattle.dh_imports.specs.Records.{lookup}
+use Rattle.dh_imports.specs.Resolver.{plan, of_plan, stage, Stage, TextOf, LookOf, Lacks, Has, Meets, Waits}
+use Rattle.dh_imports.specs.Walk.{wants}
+use Rattle.dh_imports.specs.Machine.{leads_by}
 use Rattle.dh_syntax.specs.Expressions.Tree.{Term}
 use Rattle.dh_demand.specs.Results.{Row, ask_of}
 use Rattle.dh_table.specs.declared.steps.Flight.{Flight}

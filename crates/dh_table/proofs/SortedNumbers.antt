@@ -5,7 +5,7 @@ use Rattle.std.proofs.Common.{ap, sym, ◌∙◌, subst, arith, inl, inr, get_or
 use Rattle.std.proofs.lemmas.List.{length-append, length-take, get_or-take, get_or_append_left, get_or-append-add}
 use Rattle.std.proofs.lemmas.List.Elements.{All-nil, All-cons, All-head, All-tail, All-get_or, All-weaker, All-filter, All-from_get_or, filter_passes}
 use Rattle.dh_syntax.specs.Imports.Keys.{texts_before}
-use Rattle.dh_syntax.specs.Imports.Machine.{IsAmong}
+use Rattle.dh_imports.specs.Machine.{IsAmong}
 use Rattle.dh_laws.proofs.KeyOrder.{true_false, bool-case}
 use Rattle.dh_table.specs.Inside.Sorting.{Rank, rank_at, IsBelow, Ascends, IsOrder, IsPlace, IsRanked}
 use Rattle.dh_table.proofs.RankOrder.{before_itself, before_through, before_neither}

@@ -4,21 +4,21 @@ use Rattle.std.proofs.Common.{ap, sym, ◌∙◌, subst, arith, inl, inr}
 use Rattle.std.proofs.lemmas.Bool.{false≢true}
 use Rattle.dh_syntax.specs.declared.locations.Key.{Key}
 use Rattle.dh_syntax.specs.declared.locations.Loc.{Loc}
-use Rattle.dh_syntax.specs.declared.outcomes.Origin.{Origin}
-use Rattle.dh_syntax.specs.declared.outcomes.Origin.TheVariants as origins
-use Rattle.dh_syntax.specs.declared.outcomes.Outcome as program
-use Rattle.dh_syntax.specs.declared.outcomes.Outcome.TheVariants as outcomes
-use Rattle.dh_syntax.specs.declared.outcomes.Why.{Why}
-use Rattle.dh_syntax.specs.declared.outcomes.Why.TheVariants.{Cors}
+use Rattle.dh_imports.specs.declared.outcomes.Origin.{Origin}
+use Rattle.dh_imports.specs.declared.outcomes.Origin.TheVariants as origins
+use Rattle.dh_imports.specs.declared.outcomes.Outcome as program
+use Rattle.dh_imports.specs.declared.outcomes.Outcome.TheVariants as outcomes
+use Rattle.dh_imports.specs.declared.outcomes.Why.{Why}
+use Rattle.dh_imports.specs.declared.outcomes.Why.TheVariants.{Cors}
 use Rattle.dh_syntax.specs.Expressions.Tree.{Term}
 use Rattle.dh_syntax.specs.Imports.Keys.{key_eq}
 use Rattle.dh_syntax.specs.Imports.Locations.{cors, cors_between, origin}
-use Rattle.dh_syntax.specs.Imports.Machine as machine
-use Rattle.dh_syntax.specs.Imports.Machine.{Task, State, IsDue, May, Wanted, effect, outcome_of, stage_of}
-use Rattle.dh_syntax.specs.Imports.Outcomes.{plain}
-use Rattle.dh_syntax.specs.Imports.Replay.{Replays, Step}
-use Rattle.dh_syntax.specs.Imports.Resolver.{Stage}
-use Rattle.dh_syntax.specs.Imports.Walk.{Goes, Stops, allowed, ending_by, place}
+use Rattle.dh_imports.specs.Machine as machine
+use Rattle.dh_imports.specs.Machine.{Task, State, IsDue, May, Wanted, effect, outcome_of, stage_of}
+use Rattle.dh_imports.specs.Outcomes.{plain}
+use Rattle.dh_imports.specs.Replay.{Replays, Step}
+use Rattle.dh_imports.specs.Resolver.{Stage}
+use Rattle.dh_imports.specs.Walk.{Goes, Stops, allowed, ending_by, place}
 use Rattle.dh_laws.proofs.KeyOrder.{bool-case, key_eq-true, key_eq-itself, some-equal}
 use Rattle.dh_import_laws.proofs.Due.{in_flight_due}
 use Rattle.dh_import_laws.proofs.Facts.{Grows}

@@ -2,10 +2,10 @@
 use Rattle.std.specs.Prelude.{◌≡◌, ℕ, suc, Bool, true, false, if◌then◌else◌, List, [], ◌∷◌, ◌++◌, All, length, map, reverse, filter, refl}
 use Rattle.std.proofs.Common.{ap, sym, ◌∙◌, subst}
 use Rattle.std.proofs.lemmas.List.Elements.{All-push, All-nil, All-cons, All-head, All-tail}
-use Rattle.dh_syntax.specs.Imports.Machine as machine
-use Rattle.dh_syntax.specs.Imports.Machine.{Task, State, effect}
-use Rattle.dh_syntax.specs.Imports.Replay as replay
-use Rattle.dh_syntax.specs.Imports.Replay.{kind_of}
+use Rattle.dh_imports.specs.Machine as machine
+use Rattle.dh_imports.specs.Machine.{Task, State, effect}
+use Rattle.dh_imports.specs.Replay as replay
+use Rattle.dh_imports.specs.Replay.{kind_of}
 use Rattle.dh_syntax.specs.declared.locations.Key.{Key}
 use Rattle.dh_table.specs.declared.steps.Flight.{Flight}
 use Rattle.dh_table.specs.declared.steps.Job.{Job}

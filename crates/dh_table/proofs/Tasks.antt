@@ -11,9 +11,9 @@ use Rattle.dh_syntax.specs.declared.locations.Loc.{Loc}
 use Rattle.dh_syntax.specs.Expressions.Numbers.{eq}
 use Rattle.dh_syntax.specs.Expressions.SameTree.{loc_eq, digest_eq}
 use Rattle.dh_syntax.specs.Imports.Keys.{key_eq}
-use Rattle.dh_syntax.specs.Imports.Machine as machine
-use Rattle.dh_syntax.specs.Imports.Machine.{Task}
-use Rattle.dh_syntax.specs.Imports.Records.{lookup}
+use Rattle.dh_imports.specs.Machine as machine
+use Rattle.dh_imports.specs.Machine.{Task}
+use Rattle.dh_imports.specs.Records.{lookup}
 use Rattle.dh_syntax.proofs.Numbers.{eq-true}
 use Rattle.dh_syntax.proofs.SameTree.{locs_tell, digests_tell}
 use Rattle.dh_laws.proofs.KeyOrder.{bool-case, none-some, some-equal, key_eq-true, key_eq-itself}

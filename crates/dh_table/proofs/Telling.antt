@@ -10,17 +10,17 @@ use Rattle.dh_syntax.specs.declared.faults.ParseFault.TheVariants as parses
 use Rattle.dh_syntax.specs.declared.faults.TypeFault.{TypeFault}
 use Rattle.dh_syntax.specs.declared.faults.TypeFault.TheVariants as types
 use Rattle.dh_syntax.specs.declared.locations.Key.{Key}
-use Rattle.dh_syntax.specs.declared.outcomes.Blame.{Blame}
-use Rattle.dh_syntax.specs.declared.outcomes.Origin.{Origin}
-use Rattle.dh_syntax.specs.declared.outcomes.Origin.TheVariants as origins
-use Rattle.dh_syntax.specs.declared.outcomes.Why.{Why}
-use Rattle.dh_syntax.specs.declared.outcomes.Why.TheVariants as whys
+use Rattle.dh_imports.specs.declared.outcomes.Blame.{Blame}
+use Rattle.dh_imports.specs.declared.outcomes.Origin.{Origin}
+use Rattle.dh_imports.specs.declared.outcomes.Origin.TheVariants as origins
+use Rattle.dh_imports.specs.declared.outcomes.Why.{Why}
+use Rattle.dh_imports.specs.declared.outcomes.Why.TheVariants as whys
 use Rattle.dh_syntax.specs.Expressions.Numbers.{bytes_eq}
 use Rattle.dh_syntax.specs.Expressions.SameTree.{option_eq, digest_eq, term_eq}
 use Rattle.dh_syntax.specs.Imports.Keys.{key_eq}
-use Rattle.dh_syntax.specs.Imports.LastStep as last
-use Rattle.dh_syntax.specs.Imports.Machine.{IsDue}
-use Rattle.dh_syntax.specs.Imports.Resolver.{Stage, Lacks, Has, Meets, Waits}
+use Rattle.dh_imports.specs.LastStep as last
+use Rattle.dh_imports.specs.Machine.{IsDue}
+use Rattle.dh_imports.specs.Resolver.{Stage, Lacks, Has, Meets, Waits}
 use Rattle.dh_syntax.proofs.Numbers.{and-true_left, and-true_right}
 use Rattle.dh_syntax.proofs.SameTree.{Tells, bytes_tell, options_tell, digests_tell, locs_tell, terms_tell}
 use Rattle.dh_laws.proofs.KeyOrder.{none-some, key_eq-true, key_eq-itself}

@@ -11,14 +11,14 @@ use Rattle.dh_syntax.specs.declared.locations.Loc.{Loc}
 use Rattle.dh_syntax.specs.Expressions.Bridge.{term}
 use Rattle.dh_syntax.specs.Expressions.Tree.{Term}
 use Rattle.dh_syntax.specs.Imports.Keys.{key_eq}
-use Rattle.dh_syntax.specs.Imports.Machine as machine
-use Rattle.dh_syntax.specs.Imports.Machine.{State, effect, without}
-use Rattle.dh_syntax.specs.Imports.Outcomes.{plain}
-use Rattle.dh_syntax.specs.Imports.Records.{IsParsed}
-use Rattle.dh_syntax.specs.Imports.Replay as replay
-use Rattle.dh_syntax.specs.Imports.Replay.{keys_noted, keys_found, with_bare}
-use Rattle.dh_syntax.specs.Imports.Resolver.{is_in}
-use Rattle.dh_syntax.specs.Imports.Walk.{keys_of}
+use Rattle.dh_imports.specs.Machine as machine
+use Rattle.dh_imports.specs.Machine.{State, effect, without}
+use Rattle.dh_imports.specs.Outcomes.{plain}
+use Rattle.dh_imports.specs.Records.{IsParsed}
+use Rattle.dh_imports.specs.Replay as replay
+use Rattle.dh_imports.specs.Replay.{keys_noted, keys_found, with_bare}
+use Rattle.dh_imports.specs.Resolver.{is_in}
+use Rattle.dh_imports.specs.Walk.{keys_of}
 use Rattle.dh_laws.proofs.KeyOrder.{none-some}
 use Rattle.dh_ports.specs.declared.worlds.Got.TheVariants as gots
 use Rattle.dh_demand.specs.declared.scans.Edge.{Edge}

@@ -5,11 +5,11 @@ use Rattle.std.proofs.lemmas.List.{length-replicate}
 use Rattle.dh_syntax.specs.declared.locations.Key.{Key}
 use Rattle.dh_syntax.specs.Expressions.Bridge.{term}
 use Rattle.dh_syntax.specs.Expressions.Tree.{Term}
-use Rattle.dh_syntax.specs.Imports.Keeps.{Visited, by_root, by_key, asked_by}
-use Rattle.dh_syntax.specs.Imports.Machine.{IsAmong}
-use Rattle.dh_syntax.specs.Imports.Records.{Record}
-use Rattle.dh_syntax.specs.Imports.Resolver.{Plan, TextOf, LookOf, Unknown, Now, Walks, Asks, plan}
-use Rattle.dh_syntax.specs.Imports.Walk.{Ask, course, keys_of, place}
+use Rattle.dh_imports.specs.Keeps.{Visited, by_root, by_key, asked_by}
+use Rattle.dh_imports.specs.Machine.{IsAmong}
+use Rattle.dh_imports.specs.Records.{Record}
+use Rattle.dh_imports.specs.Resolver.{Plan, TextOf, LookOf, Unknown, Now, Walks, Asks, plan}
+use Rattle.dh_imports.specs.Walk.{Ask, course, keys_of, place}
 use Rattle.dh_import_laws.proofs.Wants.{asked-keys}
 use Rattle.dh_demand.specs.declared.scans.Edge.{Edge}
 use Rattle.dh_demand.specs.declared.scans.Scan.{Scan}

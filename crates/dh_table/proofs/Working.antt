@@ -6,10 +6,10 @@ use Rattle.dh_syntax.specs.declared.locations.Key.{Key}
 use Rattle.dh_syntax.specs.Expressions.Bridge.{term}
 use Rattle.dh_syntax.specs.Expressions.Spellable.{IsSpellable}
 use Rattle.dh_syntax.specs.Expressions.Tree.{Term}
-use Rattle.dh_syntax.specs.Imports.Machine as machine
-use Rattle.dh_syntax.specs.Imports.Machine.{State, InFlight, IsDue, stage_of}
-use Rattle.dh_syntax.specs.Imports.Records as found
-use Rattle.dh_syntax.specs.Imports.Records.{IsParsed}
+use Rattle.dh_imports.specs.Machine as machine
+use Rattle.dh_imports.specs.Machine.{State, InFlight, IsDue, stage_of}
+use Rattle.dh_imports.specs.Records as found
+use Rattle.dh_imports.specs.Records.{IsParsed}
 use Rattle.dh_syntax.specs.Text.Spelling.{ParsesTo}
 use Rattle.dh_import_laws.proofs.Due.{in_flight_due}
 use Rattle.dh_import_laws.proofs.Facts.{texts_are_parsed}

@@ -4,9 +4,9 @@ use Rattle.dh_syntax.specs.declared.locations.Digest.{Digest}
 use Rattle.dh_syntax.specs.declared.locations.Loc.{Loc}
 use Rattle.dh_syntax.specs.Expressions.Bridge.{term}
 use Rattle.dh_syntax.specs.Expressions.Tree.{Term}
-use Rattle.dh_syntax.specs.Imports.Records as found
-use Rattle.dh_syntax.specs.Imports.Records.{IsGood}
-use Rattle.dh_syntax.specs.Imports.Walk.{keys_of}
+use Rattle.dh_imports.specs.Records as found
+use Rattle.dh_imports.specs.Records.{IsGood}
+use Rattle.dh_imports.specs.Walk.{keys_of}
 use Rattle.dh_syntax.specs.Text.Spelling.{ParsesTo}
 use Rattle.dh_ports.specs.Desks.{Tells, shown}
 use Rattle.dh_ports.specs.declared.worlds.Got.{Got}

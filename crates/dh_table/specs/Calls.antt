@@ -3,10 +3,10 @@ use Rattle.std.specs.Prelude.{◌≡◌, ◌⊎◌, ℕ, suc, ◌+◌, ◌≤◌
 use Rattle.dh_syntax.specs.declared.locations.Digest.{Digest}
 use Rattle.dh_syntax.specs.declared.locations.Loc.{Loc}
 use Rattle.dh_syntax.specs.Expressions.Tree.{Term}
-use Rattle.dh_syntax.specs.Imports.Machine as machine
-use Rattle.dh_syntax.specs.Imports.Machine.{Task, State, Event, IsOpen, InFlight, IsInTime, May, effect, opening}
-use Rattle.dh_syntax.specs.Imports.Records as found
-use Rattle.dh_syntax.specs.Imports.Replay.{kind_of, root_end}
+use Rattle.dh_imports.specs.Machine as machine
+use Rattle.dh_imports.specs.Machine.{Task, State, Event, IsOpen, InFlight, IsInTime, May, effect, opening}
+use Rattle.dh_imports.specs.Records as found
+use Rattle.dh_imports.specs.Replay.{kind_of, root_end}
 use Rattle.dh_table.specs.declared.claims.Claimed.{Claimed}
 use Rattle.dh_table.specs.declared.claims.Claimed.TheVariants as claimed
 use Rattle.dh_table.specs.declared.deliveries.Taken.{Taken}

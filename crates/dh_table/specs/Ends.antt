@@ -1,6 +1,6 @@
 -- What contracts see of an outcome with its item.
 use Rattle.std.specs.Prelude.{Bool}
-use Rattle.dh_syntax.specs.declared.outcomes.Outcome.{Outcome}
+use Rattle.dh_imports.specs.declared.outcomes.Outcome.{Outcome}
 use Rattle.dh_table.specs.declared.items.Item.{Item}
 
 pub record DoneParts : Type 0 where

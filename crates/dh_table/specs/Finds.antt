@@ -1,7 +1,7 @@
 -- What is read back of a text that was found.
 use Rattle.std.specs.Prelude.{ℕ, List, [], Option, Some, None, Ok, Err}
 use Rattle.dh_syntax.specs.Expressions.Tree.{Term}
-use Rattle.dh_syntax.specs.Imports.Records.{Noted, Found, Absent, Broken, Failed}
+use Rattle.dh_imports.specs.Records.{Noted, Found, Absent, Broken, Failed}
 
 -- its bytes, and none where nothing is recorded or what is recorded is no text
 abbrev pub bytes_found : Option Noted → Option (List ℕ)

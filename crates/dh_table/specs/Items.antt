@@ -1,16 +1,16 @@
 -- Items and what comes of them.
 use Rattle.std.specs.Prelude.{◌≡◌, ℕ, Bool, true, false, List, Option, Some, None}
 use Rattle.dh_syntax.specs.declared.locations.Key.{Key}
-use Rattle.dh_syntax.specs.declared.outcomes.Outcome as program
-use Rattle.dh_syntax.specs.declared.outcomes.Why.{Why}
-use Rattle.dh_syntax.specs.declared.outcomes.Why.TheVariants.{Cycle}
+use Rattle.dh_imports.specs.declared.outcomes.Outcome as program
+use Rattle.dh_imports.specs.declared.outcomes.Why.{Why}
+use Rattle.dh_imports.specs.declared.outcomes.Why.TheVariants.{Cycle}
 use Rattle.dh_syntax.specs.Expressions.Bridge.{term}
 use Rattle.dh_syntax.specs.Expressions.Tree.{Term}
-use Rattle.dh_syntax.specs.Imports.LastStep as last
-use Rattle.dh_syntax.specs.Imports.LastStep.{own, last_step}
-use Rattle.dh_syntax.specs.Imports.Outcomes.{Outcome, Loop, plain}
-use Rattle.dh_syntax.specs.Imports.Records.{IsLimitOf}
-use Rattle.dh_syntax.specs.Imports.Resolver.{Stage, Has, Meets, Lacks, Waits}
+use Rattle.dh_imports.specs.LastStep as last
+use Rattle.dh_imports.specs.LastStep.{own, last_step}
+use Rattle.dh_imports.specs.Outcomes.{Outcome, Loop, plain}
+use Rattle.dh_imports.specs.Records.{IsLimitOf}
+use Rattle.dh_imports.specs.Resolver.{Stage, Has, Meets, Lacks, Waits}
 use Rattle.dh_table.specs.declared.items.Body.{Body}
 use Rattle.dh_table.specs.declared.items.Body.TheVariants as body
 use Rattle.dh_table.specs.declared.items.Item.{Item}

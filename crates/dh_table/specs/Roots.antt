@@ -1,11 +1,11 @@
 -- How the root of a table ends.
 use Rattle.std.specs.Prelude.{◌≡◌, ◌+◌, ◌≤◌, ℕ, Some, None}
-use Rattle.dh_syntax.specs.declared.outcomes.Why.TheVariants.{Cycle, TooMany}
+use Rattle.dh_imports.specs.declared.outcomes.Why.TheVariants.{Cycle, TooMany}
 use Rattle.dh_syntax.specs.Expressions.Arity.{IsWellFormed}
 use Rattle.dh_syntax.specs.Expressions.Bridge.{term}
 use Rattle.dh_syntax.specs.Expressions.Nesting.{nesting}
 use Rattle.dh_syntax.specs.Expressions.Tree.{Term}
-use Rattle.dh_syntax.specs.Imports.Replay.{RootEnd, ready, bad, looped, too_many}
+use Rattle.dh_imports.specs.Replay.{RootEnd, ready, bad, looped, too_many}
 use Rattle.dh_syntax.specs.Limits.{most_nesting}
 use Rattle.dh_syntax.specs.Names.Indices.{IndicesBelow}
 use Rattle.dh_table.specs.declared.roots.Ended.{Ended}

@@ -4,10 +4,10 @@ use Rattle.dh_syntax.specs.Expressions.Bridge.{term}
 use Rattle.dh_syntax.specs.declared.locations.Digest.{Digest}
 use Rattle.dh_syntax.specs.declared.locations.Key.{Key}
 use Rattle.dh_syntax.specs.declared.locations.Loc.{Loc}
-use Rattle.dh_syntax.specs.Imports.Machine.{outcome_of}
-use Rattle.dh_syntax.specs.Imports.Replay.{with_bare, keys_found}
-use Rattle.dh_syntax.specs.Imports.Resolver.{is_in}
-use Rattle.dh_syntax.specs.Imports.Walk.{keys_of}
+use Rattle.dh_imports.specs.Machine.{outcome_of}
+use Rattle.dh_imports.specs.Replay.{with_bare, keys_found}
+use Rattle.dh_imports.specs.Resolver.{is_in}
+use Rattle.dh_imports.specs.Walk.{keys_of}
 use Rattle.dh_demand.specs.declared.scans.Scan.{Scan}
 use Rattle.dh_demand.specs.Results.{ask_of}
 use Rattle.dh_demand.specs.Scans.{Fits}

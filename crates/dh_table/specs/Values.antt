@@ -1,12 +1,12 @@
 -- What is known of the expressions in a table, so that calls may work on them.
 use Rattle.std.specs.Prelude.{◌+◌, ◌≤◌, ◌^◌}
-use Rattle.dh_syntax.specs.declared.outcomes.Outcome as program
-use Rattle.dh_syntax.specs.declared.outcomes.Outcome.TheVariants as variants
+use Rattle.dh_imports.specs.declared.outcomes.Outcome as program
+use Rattle.dh_imports.specs.declared.outcomes.Outcome.TheVariants as variants
 use Rattle.dh_syntax.specs.Expressions.Arity.{IsWellFormed}
 use Rattle.dh_syntax.specs.Expressions.Bridge.{term}
 use Rattle.dh_syntax.specs.Expressions.Nesting.{nesting}
 use Rattle.dh_syntax.specs.Expressions.Tree.{Term}
-use Rattle.dh_syntax.specs.Imports.Records.{IsClosed}
+use Rattle.dh_imports.specs.Records.{IsClosed}
 use Rattle.dh_syntax.specs.Limits.{most_nesting}
 use Rattle.dh_syntax.specs.Names.Indices.{IndicesBelow}
 use Rattle.dh_table.specs.declared.items.Body.{Body}

@@ -1,7 +1,7 @@
 -- What the task of a ticket needs.
 use Rattle.std.specs.Prelude.{◌≡◌, ℕ}
-use Rattle.dh_syntax.specs.Imports.Machine as machine
-use Rattle.dh_syntax.specs.Imports.Machine.{State, InFlight, stage_of}
+use Rattle.dh_imports.specs.Machine as machine
+use Rattle.dh_imports.specs.Machine.{State, InFlight, stage_of}
 use Rattle.dh_table.specs.declared.works.Work.{Work}
 use Rattle.dh_table.specs.declared.works.Work.TheVariants as works
 use Rattle.dh_table.specs.Items.{stage_of_item}

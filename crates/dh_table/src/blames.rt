@@ -5,13 +5,14 @@ ghost use Rattle.std.specs.Option.{option_copied};
 ghost use Rattle.dh_demand.specs.Nexts.{IsNext};
 ghost use Rattle.dh_demand.specs.Scans.{text_key};
 ghost use Rattle.dh_syntax.specs.Expressions.Tree.{Term};
-ghost use Rattle.dh_syntax.specs.Imports.Walk.{Walked};
+ghost use Rattle.dh_imports.specs.Walk.{Walked};
 ghost use Rattle.dh_table.specs.Inside.Due.{IsBlame};
 ghost use Rattle.dh_table.specs.States.{rows_of};
 
 use crate::entrants::Entrants;
 use dh_demand::{Edge, Next, Results};
-use dh_syntax::{Blame, Key, Loc, Mode, Outcome, Why};
+use dh_imports::{Blame, Outcome, Why};
+use dh_syntax::{Key, Loc, Mode};
 use std::alloc::{AllocError, Global};
 
 /// The fault at which the walk of a text at this parent ends, whose import this is; of a loop that of its least key.

@@ -1,9 +1,9 @@
 //! Claims: the next task of a run.
 
 ghost use Rattle.std.specs.Prelude.{◌≡◌, ◌<◌, ◌≤◌, ◌+◌, ◌↔◌, [], IsTrue, IsSome, IsNone, IfSome, None, length};
-ghost use Rattle.dh_syntax.specs.Imports.Machine.{Task, IsOpen, root_walk};
-ghost use Rattle.dh_syntax.specs.Imports.Walk.{Needs};
-ghost use Rattle.dh_syntax.specs.Imports.Replay.{root_end};
+ghost use Rattle.dh_imports.specs.Machine.{Task, IsOpen, root_walk};
+ghost use Rattle.dh_imports.specs.Walk.{Needs};
+ghost use Rattle.dh_imports.specs.Replay.{root_end};
 ghost use Rattle.dh_table.specs.Calls.{Claims};
 ghost use Rattle.dh_table.specs.Inside.Searching.{IsFound, IsJob, IsLoop};
 ghost use Rattle.dh_table.specs.States.{key_named, state_of};

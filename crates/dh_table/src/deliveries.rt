@@ -1,7 +1,7 @@
 //! Deliveries: what workers bring is recorded, where their ticket is in flight for it.
 
 ghost use Rattle.std.specs.Prelude.{◌≡◌, ◌+◌, ◌≤◌, ℕ, MatchOption, length};
-ghost use Rattle.dh_syntax.specs.Imports.Machine.{InFlight, IsInTime};
+ghost use Rattle.dh_imports.specs.Machine.{InFlight, IsInTime};
 ghost use Rattle.dh_table.specs.Brought.{BringsText, BringsLook, BringsOutcome, IsOfDigest, IsScanned, IsShelved, IsTold};
 ghost use Rattle.dh_table.specs.Calls.{IsOwnSerial, IsTaken, Takes, StaysDecided, failures, new_failures};
 ghost use Rattle.dh_table.specs.Inside.Recording.{task_named, IsOnly, IsFinish, IsOwnFinish};

@@ -11,7 +11,8 @@ ghost use Rattle.dh_table.specs.Values.{HasValue};
 use crate::entrants::Entrants;
 use dh_demand::Results;
 use dh_digest::digest;
-use dh_syntax::{Digest, Outcome};
+use dh_imports::Outcome;
+use dh_syntax::Digest;
 use std::alloc::{AllocError, Global};
 
 /// The digests of the values of the keys of these numbers. That of a key is computed once.

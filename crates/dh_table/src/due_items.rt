@@ -9,11 +9,11 @@ ghost use Rattle.dh_syntax.specs.declared.locations.Key.{Key};
 ghost use Rattle.dh_syntax.specs.Expressions.Bridge.{term};
 ghost use Rattle.dh_syntax.specs.Expressions.Spellable.{IsSpellable};
 ghost use Rattle.dh_syntax.specs.Imports.Keys.{bare};
-ghost use Rattle.dh_syntax.specs.Imports.LastStep as last;
-ghost use Rattle.dh_syntax.specs.Imports.Machine.{IsDue};
-ghost use Rattle.dh_syntax.specs.Imports.Outcomes.{plain};
-ghost use Rattle.dh_syntax.specs.Imports.Resolver.{Has, of_bare, of_plan, of_walk, plan_fetch, plan_look, plan_mode, plan_parsed, plan_text, stage, unfetched};
-ghost use Rattle.dh_syntax.specs.Imports.Walk.{walk};
+ghost use Rattle.dh_imports.specs.LastStep as last;
+ghost use Rattle.dh_imports.specs.Machine.{IsDue};
+ghost use Rattle.dh_imports.specs.Outcomes.{plain};
+ghost use Rattle.dh_imports.specs.Resolver.{Has, of_bare, of_plan, of_walk, plan_fetch, plan_look, plan_mode, plan_parsed, plan_text, stage, unfetched};
+ghost use Rattle.dh_imports.specs.Walk.{walk};
 ghost use Rattle.dh_table.specs.Inside.Due.{AreSpelled, IsItem, IsSpelled, IsValued, term_read};
 ghost use Rattle.dh_table.specs.Inside.Entering.{IsListed};
 ghost use Rattle.dh_table.specs.Inside.Reading.{noted_of, record_by, IsRead, IsReadAt, IsScan};
@@ -30,8 +30,9 @@ use crate::lookups::{Looks, Texts, look_at, text_at};
 use crate::news::Noted;
 use crate::texts::Text;
 use dh_demand::{Next, Results, Scan, assemble, next};
+use dh_imports::{Blame, Outcome, Why};
 use dh_ports::{Found, Got};
-use dh_syntax::{Blame, Bytes, Key, Loc, Mode, Outcome, ParseFault, Why, copy};
+use dh_syntax::{Bytes, Key, Loc, Mode, ParseFault, copy};
 use std::alloc::{AllocError, Global};
 
 /// The item of the key of this number, whose last step is due.

@@ -10,7 +10,8 @@ use crate::sorting::Order;
 use crate::tables::put;
 use crate::texts::Entrant;
 use dh_demand::Results;
-use dh_syntax::{Blame, Key, Outcome, Why};
+use dh_imports::{Blame, Outcome, Why};
+use dh_syntax::Key;
 use std::alloc::{AllocError, Global};
 use std::marker::Model;
 

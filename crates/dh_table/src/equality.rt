@@ -4,11 +4,12 @@ ghost use Rattle.std.specs.Prelude.{◌≡◌};
 ghost use Rattle.std.specs.Option.{option_copied};
 ghost use Rattle.dh_syntax.specs.Expressions.Numbers.{bytes_eq};
 ghost use Rattle.dh_syntax.specs.Expressions.SameTree.{option_eq, digest_eq};
-ghost use Rattle.dh_syntax.specs.declared.outcomes.Why.TheVariants as whys;
+ghost use Rattle.dh_imports.specs.declared.outcomes.Why.TheVariants as whys;
 ghost use Rattle.dh_syntax.specs.Imports.Keys.{key_eq};
 ghost use Rattle.dh_table.specs.Inside.Equal.{parse_eq, type_eq, norm_eq, why_eq, fault_eq, origin_eq};
 
-use dh_syntax::{Blame, Bytes, Digest, Key, Loc, NormFault, Origin, ParseFault, TypeFault, Why};
+use dh_imports::{Blame, Origin, Why};
+use dh_syntax::{Bytes, Digest, Key, Loc, NormFault, ParseFault, TypeFault};
 use dh_terms::{is_same_key, is_same_loc};
 
 pub(crate) fn is_same_bytes(a: &Bytes, b: &Bytes) -> bool

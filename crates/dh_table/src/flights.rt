@@ -3,7 +3,7 @@
 ghost use Rattle.std.specs.Prelude.{◌≡◌, ◌<◌, ℕ, All, IfSome, MatchOption, Some, length, map, reverse};
 ghost use Rattle.std.specs.Bool.{Decides};
 ghost use Rattle.dh_syntax.specs.Expressions.Numbers.{eq};
-ghost use Rattle.dh_syntax.specs.Imports.Records.{lookup};
+ghost use Rattle.dh_imports.specs.Records.{lookup};
 ghost use Rattle.dh_table.specs.Inside.Recording.{task_named, IsFlightOf};
 ghost use Rattle.dh_table.specs.States.{task_of, flight_of};
 

@@ -3,7 +3,7 @@
 ghost use Rattle.std.specs.Prelude.{◌≡◌, ◌<◌, ◌≤◌, ◌^◌, ◌+◌, ℕ, Bool, List, [], All, MatchOption, length, map, IfOk, OnOk};
 ghost use Rattle.std.specs.Bool.{Decides};
 ghost use Rattle.dh_syntax.specs.declared.locations.Digest.{Digest};
-ghost use Rattle.dh_syntax.specs.Imports.Keeps.{HasNoEntry};
+ghost use Rattle.dh_imports.specs.Keeps.{HasNoEntry};
 ghost use Rattle.dh_table.specs.Inside.Entering.{IsListed};
 ghost use Rattle.dh_table.specs.Inside.Keeping.{AreLeast, IsFreshAt, digest_of_entrant};
 ghost use Rattle.dh_table.specs.Inside.Reading.{record_by};
@@ -18,7 +18,8 @@ use crate::orders::is_at_most;
 use crate::probes::DigestProbe;
 use crate::sorting::{Probe, place_in};
 use dh_demand::{Marks, Results};
-use dh_syntax::{Digest, Outcome};
+use dh_imports::Outcome;
+use dh_syntax::Digest;
 use std::alloc::{AllocError, Global};
 
 /// The numbers of the least fresh keys of each digest, by ascending digest.

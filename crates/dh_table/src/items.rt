@@ -4,7 +4,8 @@ ghost use Rattle.std.specs.Prelude.{◌≡◌, true, false};
 ghost use Rattle.dh_table.specs.Items.{IsLast};
 ghost use Rattle.dh_table.specs.Values.{HasValue};
 
-use dh_syntax::{Blame, Bytes, Expr, Key, Loc, Origin, Outcome};
+use dh_imports::{Blame, Origin, Outcome};
+use dh_syntax::{Bytes, Expr, Key, Loc};
 use std::marker::Model;
 
 /// What was found for a key.

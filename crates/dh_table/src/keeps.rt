@@ -2,11 +2,11 @@
 
 ghost use Rattle.std.specs.Prelude.{◌≡◌, ℕ, [], IfOk, map};
 ghost use Rattle.dh_syntax.specs.Expressions.Tree.{Term};
-ghost use Rattle.dh_syntax.specs.Imports.Keeps.{AreKeeps};
-ghost use Rattle.dh_syntax.specs.Imports.Machine.{root_walk};
-ghost use Rattle.dh_syntax.specs.Imports.Replay.{root_end};
-ghost use Rattle.dh_syntax.specs.Imports.Resolver.{resolve};
-ghost use Rattle.dh_syntax.specs.Imports.Walk.{Ready};
+ghost use Rattle.dh_imports.specs.Keeps.{AreKeeps};
+ghost use Rattle.dh_imports.specs.Machine.{root_walk};
+ghost use Rattle.dh_imports.specs.Replay.{root_end};
+ghost use Rattle.dh_imports.specs.Resolver.{resolve};
+ghost use Rattle.dh_imports.specs.Walk.{Ready};
 ghost use Rattle.dh_table.specs.Kept.{IsKeeping, pair_of};
 ghost use Rattle.dh_table.specs.States.{state_of};
 

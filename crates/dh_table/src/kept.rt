@@ -14,8 +14,9 @@ ghost use Rattle.dh_table.specs.Values.{IsValue};
 use crate::entrants::Entrants;
 use dh_demand::Results;
 use dh_encode::encode;
+use dh_imports::Outcome;
 use dh_ports::{Cache, CacheEntry};
-use dh_syntax::{Bytes, Expr, MOST_ENTRY_BYTES, Many, Outcome};
+use dh_syntax::{Bytes, Expr, MOST_ENTRY_BYTES, Many};
 use dh_terms::alpha;
 use std::alloc::{AllocError, Global};
 

@@ -3,9 +3,9 @@
 ghost use Rattle.std.specs.Prelude.{◌≡◌, ◌⊎◌, ◌<◌, ℕ, All, None, true, false, length};
 ghost use Rattle.std.specs.Option.{option_copied};
 ghost use Rattle.dh_syntax.specs.Expressions.Bridge.{term};
-ghost use Rattle.dh_syntax.specs.Imports.Machine.{leads_by};
-ghost use Rattle.dh_syntax.specs.Imports.Resolver as resolver;
-ghost use Rattle.dh_syntax.specs.Imports.Walk.{wants};
+ghost use Rattle.dh_imports.specs.Machine.{leads_by};
+ghost use Rattle.dh_imports.specs.Resolver as resolver;
+ghost use Rattle.dh_imports.specs.Walk.{wants};
 ghost use Rattle.dh_demand.specs.declared.scans.Edge.{Edge};
 ghost use Rattle.dh_demand.specs.Results.{ask_of};
 ghost use Rattle.dh_demand.specs.Scans.{Fits, text_key};

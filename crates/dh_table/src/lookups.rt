@@ -3,7 +3,7 @@
 ghost use Rattle.std.specs.Prelude.{◌≡◌, List, All, map, reverse, IfSome};
 ghost use Rattle.std.specs.Option.{option_copied, option_map};
 ghost use Rattle.dh_syntax.specs.Expressions.SameTree.{digest_eq, loc_eq};
-ghost use Rattle.dh_syntax.specs.Imports.Records.{lookup};
+ghost use Rattle.dh_imports.specs.Records.{lookup};
 ghost use Rattle.dh_demand.specs.Results.{Row};
 ghost use Rattle.dh_table.specs.Inside.Reading.{noted_of, seen_of, IsReadAt, IsRead};
 ghost use Rattle.dh_table.specs.Inside.Sorting.{IsOrder, rank_of_look, rank_of_text};

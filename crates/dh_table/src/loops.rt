@@ -2,9 +2,9 @@
 
 ghost use Rattle.std.specs.Prelude.{◌≡◌, ◌<◌, ◌≤◌, ℕ, if◌then◌else◌, All, length, map, reverse, vec_capacity};
 ghost use Rattle.dh_syntax.specs.Imports.Keys.{key_eq};
-ghost use Rattle.dh_syntax.specs.Imports.Machine.{State, root_walk};
-ghost use Rattle.dh_syntax.specs.Imports.Resolver.{lesser, least_back_to};
-ghost use Rattle.dh_syntax.specs.Imports.Walk.{Needs};
+ghost use Rattle.dh_imports.specs.Machine.{State, root_walk};
+ghost use Rattle.dh_imports.specs.Resolver.{lesser, least_back_to};
+ghost use Rattle.dh_imports.specs.Walk.{Needs};
 ghost use Rattle.dh_table.specs.Inside.Entering.{IsListed};
 ghost use Rattle.dh_table.specs.Inside.Reading.{IsRead};
 ghost use Rattle.dh_table.specs.Inside.Searching.{IsStuck, IsNextStuck, IsLoop};

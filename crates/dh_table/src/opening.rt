@@ -2,8 +2,8 @@
 
 ghost use Rattle.std.specs.Prelude.{◌≡◌, ◌<◌, ◌≤◌, [], true, false, IfOk, IfErr, MatchResult};
 ghost use Rattle.dh_syntax.specs.Expressions.Bridge.{term};
-ghost use Rattle.dh_syntax.specs.Imports.Machine.{opening};
-ghost use Rattle.dh_syntax.specs.Imports.Replay.{has_too_many};
+ghost use Rattle.dh_imports.specs.Machine.{opening};
+ghost use Rattle.dh_imports.specs.Replay.{has_too_many};
 ghost use Rattle.dh_table.specs.Calls.{IsOpened};
 
 use crate::entering::enter_few;

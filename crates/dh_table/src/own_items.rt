@@ -4,16 +4,16 @@ ghost use Rattle.std.specs.Prelude.{◌≡◌, ◌<◌, ℕ, false, true, List, 
 ghost use Rattle.std.specs.Option.{option_copied, option_map};
 ghost use Rattle.dh_syntax.specs.declared.locations.Key.{Key};
 ghost use Rattle.dh_syntax.specs.declared.locations.Loc.{Loc};
-ghost use Rattle.dh_syntax.specs.declared.outcomes.Why.TheVariants as whys;
+ghost use Rattle.dh_imports.specs.declared.outcomes.Why.TheVariants as whys;
 ghost use Rattle.dh_syntax.specs.Expressions.Bridge.{term};
 ghost use Rattle.dh_syntax.specs.Expressions.SameTree.{digest_eq, loc_eq};
 ghost use Rattle.dh_syntax.specs.Expressions.Tree.{Term};
 ghost use Rattle.dh_syntax.specs.Imports.Keys.{bare};
-ghost use Rattle.dh_syntax.specs.Imports.LastStep as last;
-ghost use Rattle.dh_syntax.specs.Imports.Outcomes.{plain};
-ghost use Rattle.dh_syntax.specs.Imports.Records.{lookup};
-ghost use Rattle.dh_syntax.specs.Imports.Resolver.{Has, of_bare, of_plan, of_walk, plan_look, plan_mode, plan_text, stage};
-ghost use Rattle.dh_syntax.specs.Imports.Walk.{Ask, Walked, Ready, walk};
+ghost use Rattle.dh_imports.specs.LastStep as last;
+ghost use Rattle.dh_imports.specs.Outcomes.{plain};
+ghost use Rattle.dh_imports.specs.Records.{lookup};
+ghost use Rattle.dh_imports.specs.Resolver.{Has, of_bare, of_plan, of_walk, plan_look, plan_mode, plan_text, stage};
+ghost use Rattle.dh_imports.specs.Walk.{Ask, Walked, Ready, walk};
 ghost use Rattle.dh_demand.specs.declared.ends.Next.TheVariants as nexts;
 ghost use Rattle.dh_table.specs.declared.texts.Look.{Look};
 ghost use Rattle.dh_demand.specs.Nexts.{IsNext};
@@ -36,8 +36,9 @@ use crate::lookups::{Looks, Texts, look_at, text_at};
 use crate::news::Noted;
 use crate::texts::Text;
 use dh_demand::{Edge, Next, Results, Scan, is_assembled, next};
+use dh_imports::{Origin, Outcome, Why};
 use dh_ports::Got;
-use dh_syntax::{Bytes, Digest, Expr, Key, Loc, Mode, Origin, Outcome, Why};
+use dh_syntax::{Bytes, Digest, Expr, Key, Loc, Mode};
 use dh_terms::{is_same_expr, is_same_loc};
 
 /// Whether the key of this number is due, on this item. It takes no memory.

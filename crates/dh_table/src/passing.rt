@@ -4,7 +4,8 @@ ghost use Rattle.std.specs.Prelude.{◌≡◌, is_none};
 ghost use Rattle.dh_syntax.specs.Imports.Locations.{origin};
 ghost use Rattle.dh_table.specs.Inside.Searching.{is_open_origin, is_open_value};
 
-use dh_syntax::{Loc, Origin, Outcome};
+use dh_imports::{Origin, Outcome};
+use dh_syntax::Loc;
 
 /// Whether the outcome of a key at this location is a value that a text may read wherever it stands.
 pub(crate) fn is_open_value(loc: &Loc, outcome: &Outcome) -> bool

@@ -2,17 +2,18 @@
 
 ghost use Rattle.std.specs.Prelude.{◌≡◌, ◌-◌, ◌↔◌, vec_len, vec_capacity, ◌≤◌, ◌<◌, [], IsTrue, None, length, false};
 ghost use Rattle.std.specs.Option.{option_copied, option_map};
-ghost use Rattle.dh_syntax.specs.Imports.Machine.{Task, IsOpen, outcome_of};
-ghost use Rattle.dh_syntax.specs.Imports.Outcomes.{plain};
-ghost use Rattle.dh_syntax.specs.Imports.Replay.{distinct, keys, root_end};
+ghost use Rattle.dh_imports.specs.Machine.{Task, IsOpen, outcome_of};
+ghost use Rattle.dh_imports.specs.Outcomes.{plain};
+ghost use Rattle.dh_imports.specs.Replay.{distinct, keys, root_end};
 ghost use Rattle.dh_table.specs.Brought.{AreShelved, AreTold};
 ghost use Rattle.dh_table.specs.Calls.{IsIdle};
 ghost use Rattle.dh_table.specs.States.{state_of};
 
 use crate::tables::Table;
 use dh_demand::Results;
+use dh_imports::Outcome;
 use dh_ports::World;
-use dh_syntax::{Key, Outcome};
+use dh_syntax::Key;
 
 // For how many more elements there is room.
 fn room_of<T>(v: &Vec<T>) -> usize

@@ -3,10 +3,10 @@
 ghost use Rattle.std.specs.Prelude.{◌≡◌, List, ℕ, Option, Some, Ok, IfOk, true};
 ghost use Rattle.std.specs.Option.{option_copied};
 ghost use Rattle.dh_syntax.specs.Expressions.Tree.{Term};
-ghost use Rattle.dh_syntax.specs.Imports.Freezing.{digests_behind};
-ghost use Rattle.dh_syntax.specs.Imports.Machine.{outcome_of};
-ghost use Rattle.dh_syntax.specs.Imports.Records.{Found, text_at};
-ghost use Rattle.dh_syntax.specs.Imports.TextPaths.{text_path};
+ghost use Rattle.dh_imports.specs.Freezing.{digests_behind};
+ghost use Rattle.dh_imports.specs.Machine.{outcome_of};
+ghost use Rattle.dh_imports.specs.Records.{Found, text_at};
+ghost use Rattle.dh_imports.specs.TextPaths.{text_path};
 ghost use Rattle.dh_demand.specs.Scans.{text_key};
 ghost use Rattle.dh_table.specs.Finds.{bytes_found, path_found};
 ghost use Rattle.dh_table.specs.States.{record_of, state_of};

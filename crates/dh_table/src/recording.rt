@@ -1,8 +1,8 @@
 //! The steps that record news.
 
 ghost use Rattle.std.specs.Prelude.{◌≡◌, ◌+◌, ◌<◌, ◌≤◌, ◌^◌, ◌++◌, ◌∷◌, [], if◌then◌else◌, Some, IfOk, OnOk, OnErr, MatchOption, length, vec_len, vec_capacity};
-ghost use Rattle.dh_syntax.specs.Imports.Machine.{IsInTime};
-ghost use Rattle.dh_syntax.specs.Imports.Records.{IsGood};
+ghost use Rattle.dh_imports.specs.Machine.{IsInTime};
+ghost use Rattle.dh_imports.specs.Records.{IsGood};
 ghost use Rattle.dh_table.specs.Brought.{IsOfDigest, IsScanned, IsShelved, IsTold};
 ghost use Rattle.dh_table.specs.Calls.{Records, StaysDecided};
 ghost use Rattle.dh_table.specs.Inside.Entering.{keys_in, entered_all, AreMore, AreEdges};

@@ -1,15 +1,16 @@
 //! How the root ends.
 
 ghost use Rattle.std.specs.Prelude.{◌≡◌, IsSome, IfOk, IfSome};
-ghost use Rattle.dh_syntax.specs.Imports.Replay.{root_end};
+ghost use Rattle.dh_imports.specs.Replay.{root_end};
 ghost use Rattle.dh_table.specs.Roots.{IsEnd, IsFitEnd};
 ghost use Rattle.dh_table.specs.States.{state_of};
 
 use crate::blames::blame_at;
 use crate::tables::Table;
 use dh_demand::{Next, assemble};
+use dh_imports::{Blame, Why};
 use dh_ports::World;
-use dh_syntax::{Blame, Expr, MOST_KEYS, Why};
+use dh_syntax::{Expr, MOST_KEYS};
 use std::alloc::{AllocError, Global};
 
 /// How the root of a run ends.

@@ -5,7 +5,7 @@ ghost use Rattle.std.specs.Bool.{Decides};
 ghost use Rattle.std.specs.Option.{option_map};
 ghost use Rattle.dh_syntax.specs.Expressions.Numbers.{eq};
 ghost use Rattle.dh_syntax.specs.Expressions.SameTree.{digest_eq};
-ghost use Rattle.dh_syntax.specs.Imports.Records.{lookup};
+ghost use Rattle.dh_imports.specs.Records.{lookup};
 ghost use Rattle.dh_table.specs.declared.texts.Entrant.{Entrant};
 ghost use Rattle.dh_table.specs.Inside.Searching.{Flies};
 ghost use Rattle.dh_table.specs.States.{digest_or_none, task_of, flight_of};

@@ -3,7 +3,7 @@
 
 ghost use Rattle.std.specs.Prelude.{◌≡◌, ◌<◌, ◌≤◌, ◌^◌, ℕ, List, All, None, Some, MatchOption, length, slice_set, sum_by};
 ghost use Rattle.dh_syntax.specs.Expressions.Bridge.{term};
-ghost use Rattle.dh_syntax.specs.Imports.Machine.{State, outcome_of};
+ghost use Rattle.dh_imports.specs.Machine.{State, outcome_of};
 ghost use Rattle.dh_demand.specs.Scans.{Fits};
 ghost use Rattle.dh_table.specs.Inside.Entering.{AreDistinct, IsListed, keys_in};
 ghost use Rattle.dh_table.specs.Inside.Piling.{number_at};

@@ -1,8 +1,8 @@
 //! The table.
 
 ghost use Rattle.std.specs.Prelude.{◌≡◌, ◌+◌, ◌≤◌, ◌<◌, ◌++◌, ◌∷◌, [], suc, length, None, IsOk, OnOk, vec_len, vec_capacity};
-ghost use Rattle.dh_syntax.specs.Imports.Machine as machine;
-ghost use Rattle.dh_syntax.specs.Imports.Machine.{Task, IsOpen, root_walk, InFlight, IsInTime, May, effect};
+ghost use Rattle.dh_imports.specs.Machine as machine;
+ghost use Rattle.dh_imports.specs.Machine.{Task, IsOpen, root_walk, InFlight, IsInTime, May, effect};
 ghost use Rattle.dh_table.specs.Calls.{Adds, IsSame, Releases, with_late};
 ghost use Rattle.dh_demand.specs.Nexts.{IsNext, IsInside};
 ghost use Rattle.dh_table.specs.States.{IsFrozenLook, rows_of, key_named, state_of, task_of, news_of};
@@ -16,8 +16,9 @@ use crate::sorting::Order;
 use crate::steps::{Flight, Job, Kind, Step};
 use crate::texts::{Look, Text};
 use dh_demand::{Next, Results, Scan, next};
+use dh_imports::Outcome;
 use dh_ports::World;
-use dh_syntax::{Key, Outcome};
+use dh_syntax::Key;
 use std::alloc::{AllocError, Global};
 use std::marker::{Model, PhantomData};
 

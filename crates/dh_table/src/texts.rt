@@ -3,7 +3,8 @@
 use crate::entries::Seen;
 use crate::news::Noted;
 use dh_demand::Scan;
-use dh_syntax::{Digest, Key, Loc, Outcome, ParseFault, Piece};
+use dh_imports::Outcome;
+use dh_syntax::{Digest, Key, Loc, ParseFault, Piece};
 
 /// A recorded text.
 #[derive(Debug, Drop)]

@@ -2,8 +2,8 @@
 
 ghost use Rattle.std.specs.Prelude.{◌≡◌, ◌<◌, ◌≤◌, ◌^◌, ℕ, All, None, true, false, length, slice_set};
 ghost use Rattle.dh_syntax.specs.Expressions.Bridge.{term};
-ghost use Rattle.dh_syntax.specs.Imports.Keeps.{asked_by};
-ghost use Rattle.dh_syntax.specs.Imports.Resolver as resolver;
+ghost use Rattle.dh_imports.specs.Keeps.{asked_by};
+ghost use Rattle.dh_imports.specs.Resolver as resolver;
 ghost use Rattle.dh_syntax.specs.Expressions.Tree.{Term};
 ghost use Rattle.dh_demand.specs.Results.{ask_of};
 ghost use Rattle.dh_demand.specs.Scans.{Fits};

@@ -1,8 +1,8 @@
 //! Which task of a key is due, or for which key it waits.
 
 ghost use Rattle.std.specs.Prelude.{◌<◌, All, length};
-ghost use Rattle.dh_syntax.specs.Imports.Resolver as resolver;
-ghost use Rattle.dh_syntax.specs.Imports.Resolver.{of_plan, stage};
+ghost use Rattle.dh_imports.specs.Resolver as resolver;
+ghost use Rattle.dh_imports.specs.Resolver.{of_plan, stage};
 ghost use Rattle.dh_demand.specs.Results.{ask_of};
 ghost use Rattle.dh_table.specs.Inside.Entering.{IsListed};
 ghost use Rattle.dh_table.specs.Inside.Reading.{record_by, IsRead, IsPlan, IsReach};

@@ -1,7 +1,7 @@
 //! What the task of a ticket needs.
 
 ghost use Rattle.std.specs.Prelude.{◌<◌, length, IfOk};
-ghost use Rattle.dh_syntax.specs.Imports.Machine.{Task, InFlight};
+ghost use Rattle.dh_imports.specs.Machine.{Task, InFlight};
 ghost use Rattle.dh_table.specs.States.{IsFrozenLook, state_of, task_of};
 ghost use Rattle.dh_table.specs.Works.{IsWork, IsFitWork};
 

@@ -3,21 +3,22 @@ use Rattle.std.proofs.Common.{◌≡◌, ◌⊎◌, inl, inr, ℕ, ◌+◌, ◌^
 use Rattle.std.specs.Prelude.{IsSome}
 use Rattle.dh_syntax.specs.declared.expressions.Expr.{Expr}
 use Rattle.dh_syntax.specs.declared.faults.Ill.{Ill}
-use Rattle.dh_syntax.specs.declared.outcomes.Blame.{Blame}
-use Rattle.dh_syntax.specs.declared.verbs.Verb.{Verb}
-use Rattle.dh_syntax.specs.Command.Answer.{Response, FaultAnswer, ResolvedAnswer, ValuedAnswer, valued, faulty, circular, overfull}
-use Rattle.dh_syntax.specs.Command.ImportFaults.{ill_of}
+use Rattle.dh_imports.specs.declared.outcomes.Blame.{Blame}
+use Rattle.dh_command.specs.declared.verbs.Verb.{Verb}
+use Rattle.dh_command.specs.Answer.{FaultAnswer, ResolvedAnswer, ValuedAnswer, valued, faulty, circular, overfull}
+use Rattle.dh_command.specs.Responses.{Response}
+use Rattle.dh_imports.specs.ImportFaults.{ill_of}
 use Rattle.dh_syntax.specs.Expressions.Arity.{IsWellFormed}
 use Rattle.dh_syntax.specs.Expressions.Bridge.{term}
 use Rattle.dh_syntax.specs.Expressions.Nesting.{nesting}
 use Rattle.dh_syntax.specs.Expressions.Spellable.{IsSpellable}
 use Rattle.dh_syntax.specs.Expressions.Tree.{Term}
-use Rattle.dh_syntax.specs.Imports.Machine.{State, outcome_of, root_walk}
-use Rattle.dh_syntax.specs.Imports.Readings.{HasValue, root_reading}
-use Rattle.dh_syntax.specs.Imports.Replay.{RootEnd, ready, bad, looped, too_many, has_too_many, end_of, root_end}
-use Rattle.dh_syntax.specs.Imports.Resolver.{Resolves}
-use Rattle.dh_syntax.specs.Imports.RootEnds.{EndsBy}
-use Rattle.dh_syntax.specs.Imports.Walk.{Walked, Ready, Fails, Turns, Needs}
+use Rattle.dh_imports.specs.Machine.{State, outcome_of, root_walk}
+use Rattle.dh_imports.specs.Readings.{HasValue, root_reading}
+use Rattle.dh_imports.specs.Replay.{RootEnd, ready, bad, looped, too_many, has_too_many, end_of, root_end}
+use Rattle.dh_imports.specs.Resolver.{Resolves}
+use Rattle.dh_imports.specs.RootEnds.{EndsBy}
+use Rattle.dh_imports.specs.Walk.{Walked, Ready, Fails, Turns, Needs}
 use Rattle.dh_syntax.specs.Names.Indices.{IndicesBelow}
 use Rattle.dh_syntax.proofs.SpellableIndices.{spellable-indices}
 use Rattle.dh_laws.proofs.KeyOrder.{none-some, some-equal}

@@ -8,12 +8,12 @@ use Rattle.std.specs.Str.Parse.{AllDigits, IsNumeral, ParsesUnsigned, digits_val
 use Rattle.std.proofs.lemmas.Bool.{and_parts, leb-true, ne_eqb}
 use Rattle.std.proofs.lemmas.Str.Parse.{without_leading_plus_none}
 use Rattle.dh_literals.proofs.NumbersRead.{decimal_digit, no_plus}
-use Rattle.dh_syntax.specs.declared.commands.Command.{Command}
-use Rattle.dh_syntax.specs.declared.verbs.Verb.{Verb}
+use Rattle.dh_command.specs.declared.commands.Command.{Command}
+use Rattle.dh_command.specs.declared.verbs.Verb.{Verb}
 use Rattle.dh_syntax.specs.Limits.{most_workers, default_workers}
 use Rattle.dh_syntax.proofs.Numbers.{bytes_eq-true}
 use Rattle.dh_syntax.specs.Expressions.Numbers.{bytes_eq}
-use Rattle.dh_syntax.specs.Command.Words.{Word, named, verb_of, is_count, workers_of, operands, options}
+use Rattle.dh_command.specs.Words.{Word, named, verb_of, is_count, workers_of, operands, options}
 
 -- a word that is none of these
 abbrev IsNone : List ℕ → List (Word × Verb) → Type 0
@@ -32,9 +32,10 @@ unnamed w [] n = refl
 unnamed w (p ∷ ps) n = passed w p (bytes_eq p.0 w) (find (λ p. bytes_eq p.0 w) ps) refl n.0 (unnamed w ps n.1)
 
 -- a word that names no command
-pub verb_of-none : (w : List ℕ) → (w ≡ codes "encode" → ⊥) → (w ≡ codes "decode" → ⊥) → (w ≡ codes "resolve" → ⊥) → (w ≡ codes "type" → ⊥) → (w ≡ codes "normalize" → ⊥) → (w ≡ codes "hash" → ⊥) → (w ≡ codes "freeze" → ⊥) → (w ≡ codes "help" → ⊥) → (w ≡ codes "--help" → ⊥) → (w ≡ codes "-h" → ⊥) → (w ≡ codes "--version" → ⊥)
+pub verb_of-none : (w : List ℕ) → (w ≡ codes "encode" → ⊥) → (w ≡ codes "decode" → ⊥) → (w ≡ codes "resolve" → ⊥) → (w ≡ codes "type" → ⊥) → (w ≡ codes "normalize" → ⊥) → (w ≡ codes "hash" → ⊥) → (w ≡ codes "to-json" → ⊥) → (w ≡ codes "freeze" → ⊥) → (w ≡ codes "steps" → ⊥) → (w ≡ codes "help" → ⊥) → (w ≡ codes "--help" → ⊥) → (w ≡ codes "-h" → ⊥) → (w ≡ codes "--version" → ⊥)
     → None ≡ verb_of w
-verb_of-none w k1 k2 k3 k4 k5 k6 k7 k8 k9 k10 k11 = sym (unnamed w named (k1, (k2, (k3, (k4, (k5, (k6, (k7, (k8, (k9, (k10, (k11, tt))))))))))))
+verb_of-none w k1 k2 k3 k4 k5 k6 k7 k8 k9 k10 k11 k12 k13 =
+    sym (unnamed w named (k1, (k2, (k3, (k4, (k5, (k6, (k7, (k8, (k9, (k10, (k11, (k12, (k13, tt))))))))))))))
 
 -- ---- numbers of workers
 

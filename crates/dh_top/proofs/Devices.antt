@@ -7,24 +7,28 @@ use Rattle.dh_syntax.specs.declared.faults.ParseFault.{ParseFault}
 use Rattle.dh_syntax.specs.declared.faults.TypeFault.TheVariants as type_faults
 use Rattle.dh_syntax.specs.declared.locations.Digest.{Digest}
 use Rattle.dh_syntax.specs.declared.locations.Loc.{Loc}
-use Rattle.dh_syntax.specs.declared.outcomes.Blame.{Blame}
-use Rattle.dh_syntax.specs.declared.outcomes.Why.{Why}
-use Rattle.dh_syntax.specs.declared.outcomes.Why.TheVariants as whys
-use Rattle.dh_syntax.specs.declared.statuses.Status.{Status}
-use Rattle.dh_syntax.specs.declared.statuses.Status.TheVariants as status
-use Rattle.dh_syntax.specs.declared.verbs.Verb.{Verb}
-use Rattle.dh_syntax.specs.declared.verbs.Verb.TheVariants as verb
-use Rattle.dh_syntax.specs.Command.Answer.{Response, Does, ResolvedAnswer, ValuedAnswer, TypedAnswer, FaultAnswer, encodes, decodes, decodes_none, spells, spells_none, helps, tells_version, valued, faulty, circular, overfull, at_fault, itself, frozen, typed, prints, refuses, limited, encoded, decoded}
-use Rattle.dh_syntax.specs.Command.ImportFaults.{why_status}
-use Rattle.dh_syntax.specs.Command.Statuses.{code_of}
-use Rattle.dh_syntax.specs.Command.Words.{resolves as does_resolve}
+use Rattle.dh_imports.specs.declared.outcomes.Blame.{Blame}
+use Rattle.dh_imports.specs.declared.outcomes.Why.{Why}
+use Rattle.dh_imports.specs.declared.outcomes.Why.TheVariants as whys
+use Rattle.dh_command.specs.declared.statuses.Status.{Status}
+use Rattle.dh_command.specs.declared.statuses.Status.TheVariants as status
+use Rattle.dh_command.specs.declared.verbs.Verb.{Verb}
+use Rattle.dh_command.specs.declared.verbs.Verb.TheVariants as verb
+use Rattle.dh_command.specs.Answer.{Does, ResolvedAnswer, ValuedAnswer, TypedAnswer, FaultAnswer, encodes, decodes, decodes_none, spells, spells_none, takes_steps, helps, tells_version, valued, faulty, circular, overfull, at_fault, itself, frozen, typed, prints, refuses, limited, no_value, encoded, decoded}
+use Rattle.dh_command.specs.Responses.{Response}
+use Rattle.dh_command.specs.Statuses.{why_status}
+use Rattle.dh_command.specs.Statuses.{code_of}
+use Rattle.dh_command.specs.StepsReplies.{steps_response}
+use Rattle.dh_steps.specs.StepsAnswer as replies
+use Rattle.dh_steps.specs.StepsAnswer.{StepsReply}
+use Rattle.dh_command.specs.Words.{Word, resolves as does_resolve}
 use Rattle.dh_syntax.specs.Expressions.SameTree.{loc_eq}
 use Rattle.dh_syntax.specs.Expressions.Tree.{Term}
-use Rattle.dh_syntax.specs.Imports.Readings.{Reading}
-use Rattle.dh_syntax.specs.Imports.Records as found
-use Rattle.dh_syntax.specs.Imports.Records.{Record, Noted, Seen, lookup, text_at}
-use Rattle.dh_syntax.specs.Imports.Replay.{bad}
-use Rattle.dh_syntax.specs.Imports.RootEnds.{EndsBy}
+use Rattle.dh_imports.specs.Readings.{Reading}
+use Rattle.dh_imports.specs.Records as found
+use Rattle.dh_imports.specs.Records.{Record, Noted, Seen, lookup, text_at}
+use Rattle.dh_imports.specs.Replay.{bad}
+use Rattle.dh_imports.specs.RootEnds.{EndsBy}
 use Rattle.dh_laws.proofs.KeyOrder.{none-some, some-equal}
 use Rattle.dh_session.specs.Works.{AtLast}
 use Rattle.dh_table.specs.Calls.{has_failed, is_failed}
@@ -68,17 +72,24 @@ decoded_status : {P : Type 0} (w : Response) (o : Result Term DecodeFault) → w
 decoded_status w (Ok e) is = not_desk w status.Ok (ap (λ w. w.status) is) (λ n. omega (arith, n))
 decoded_status w (Err f) is = not_desk w status.Text (ap (λ w. w.status) is) (λ n. omega (arith, n))
 
+steps_status : {P : Type 0} (s : StepsReply) (w : Response) → w ≡ steps_response s → w.status ≡ status.Desk → P
+steps_status (replies.Misspelt f) w u = not_desk w status.Text (ap (λ w. w.status) u) (λ n. omega (arith, n))
+steps_status (replies.Stuck text) w u = not_desk w status.Step (ap (λ w. w.status) u) (λ n. omega (arith, n))
+steps_status (replies.TooLarge text) w u = not_desk w status.Limit (ap (λ w. w.status) u) (λ n. omega (arith, n))
+steps_status (replies.Printed a b) w u = not_desk w status.Ok (ap (λ w. w.status) u) (λ n. omega (arith, n))
+
 resolves_none : {P : Type 0} (v : Verb) → does_resolve v ≡ false → IsTrue (does_resolve v) → P
 resolves_none v n t = absurd (true≢false (sym t ∙ n))
 
-pub alone_status : {P : Type 0} (v : Verb) (text : List ℕ) (r : Record) (w : Response) → does_resolve v ≡ false → Does v text r w → w.status ≡ status.Desk → P
-alone_status v text r w n (encodes o h p q) = encoded_status w o q
-alone_status v text r w n (decodes o h l p q) = decoded_status w o q
-alone_status v text r w n (decodes_none h l q) = not_desk w status.Text (ap (λ w. w.status) q) (λ k. omega (arith, k))
-alone_status v text r w n (spells e h p a) = resolves_none v n h
-alone_status v text r w n (spells_none f h p q) = resolves_none v n h
-alone_status v text r w n (helps h q) = not_desk w status.Ok (ap (λ w. w.status) q) (λ k. omega (arith, k))
-alone_status v text r w n (tells_version h q) = not_desk w status.Ok (ap (λ w. w.status) q) (λ k. omega (arith, k))
+pub alone_status : {P : Type 0} (v : Verb) (ops : List Word) (text : List ℕ) (r : Record) (w : Response) → does_resolve v ≡ false → Does v ops text r w → w.status ≡ status.Desk → P
+alone_status v ops text r w n (encodes o h p q) = encoded_status w o q
+alone_status v ops text r w n (decodes o h l p q) = decoded_status w o q
+alone_status v ops text r w n (decodes_none h l q) = not_desk w status.Text (ap (λ w. w.status) q) (λ k. omega (arith, k))
+alone_status v ops text r w n (spells e h p a) = resolves_none v n h
+alone_status v ops text r w n (spells_none f h p q) = resolves_none v n h
+alone_status v ops text r w n (takes_steps places s h k a u) = steps_status s w u
+alone_status v ops text r w n (helps h q) = not_desk w status.Ok (ap (λ w. w.status) q) (λ k. omega (arith, k))
+alone_status v ops text r w n (tells_version h q) = not_desk w status.Ok (ap (λ w. w.status) q) (λ k. omega (arith, k))
 
 pub misspelt_status : {P : Type 0} (w : Response) → w.status ≡ status.Text → w.status ≡ status.Desk → P
 misspelt_status w is = not_desk w status.Text is (λ n. omega (arith, n))
@@ -93,6 +104,7 @@ typed_status : {P : Type 0} (v : Verb) (i : Reading) (e : Term) (w : Response) �
 typed_status v i e w (prints t bytes h p u) = not_desk w status.Ok (ap (λ w. w.status) u) (λ n. omega (arith, n))
 typed_status v i e w (refuses f bytes h l u) = not_desk w status.Ill (ap (λ w. w.status) u) (λ n. omega (arith, n))
 typed_status v i e w (limited l m h u) = not_desk w status.Limit (ap (λ w. w.status) u) (λ n. omega (arith, n))
+typed_status v i e w (no_value t f at same h n d j u) = not_desk w status.NoJson (ap (λ w. w.status) u) (λ n. omega (arith, n))
 
 valued_status : {P : Type 0} (v : Verb) (i : Reading) (e : Term) (w : Response) → ValuedAnswer v i e w → w.status ≡ status.Desk → P
 valued_status v i e w (itself h u) = not_desk w status.Ok (ap (λ w. w.status) u) (λ n. omega (arith, n))
@@ -141,8 +153,8 @@ rose before after n some (inl h) = inl h
 rose before after n some (inr h) = inr (omega (arith, some, h))
 
 pub desk_failed : (v : Verb) (text : List ℕ) (o : Outside) (r : Record) → Finds v text o r → 0 < failures r → DeskFailed o
-desk_failed v text o r (finds root e pairs t p f by k files own) some = rose o.faults_before o.faults_after (failures r) some f.faults
-desk_failed v text o r (leaves none filed quiet) some = absurd (let z : failures r ≡ 0 = ap failures none in omega (arith, z, some))
+desk_failed v text o r (finds root e pairs steps t p s a f by k files own) some = rose o.faults_before o.faults_after (failures r) some f.faults
+desk_failed v text o r (leaves none filed asked quiet) some = absurd (let z : failures r ≡ 0 = ap failures none in omega (arith, z, some))
 
 pub told_device : (w : Response) (o : Outside) (out err : Output) (s : Status) → (w.status ≡ status.Desk → DeskFailed o) → Delivers w out err s → s ≡ status.Desk → DeskFailed o
 told_device w o out err s d (whole g h e) is = d (sym e ∙ is)

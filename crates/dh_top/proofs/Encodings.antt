@@ -5,19 +5,22 @@ use Rattle.std.proofs.lemmas.Bool.{ltb-true, ltb-false}
 use Rattle.std.specs.Io.KnownBytes.{Consumes, Keeps}
 use Rattle.std.specs.declared.alloc.AllocError.{AllocError}
 use Rattle.dh_ports.specs.Counts.{Rose}
-use Rattle.dh_syntax.specs.declared.commands.Command.{Command}
+use Rattle.dh_command.specs.declared.commands.Command.{Command}
 use Rattle.dh_syntax.specs.declared.faults.DecodeFault.{DecodeFault}
 use Rattle.dh_syntax.specs.declared.faults.ParseFault.{ParseFault}
 use Rattle.dh_syntax.specs.declared.faults.ParseFault.TheVariants as parse
-use Rattle.dh_syntax.specs.declared.statuses.Status.TheVariants as status
-use Rattle.dh_syntax.specs.declared.verbs.Verb.{Verb}
-use Rattle.dh_syntax.specs.declared.verbs.Verb.TheVariants as verb
+use Rattle.dh_command.specs.declared.statuses.Status.TheVariants as status
+use Rattle.dh_command.specs.declared.verbs.Verb.{Verb}
+use Rattle.dh_command.specs.declared.verbs.Verb.TheVariants as verb
 use Rattle.dh_syntax.specs.Bytes.BinaryFaults.{DecodesTo}
-use Rattle.dh_syntax.specs.Command.Answer.{Response, Does, encodes, decodes, decodes_none, spells, spells_none, helps, tells_version, usage, does, answer, encoded, decoded, misspelt, misused, unread}
-use Rattle.dh_syntax.specs.Command.Telling.{help_text, version_text}
-use Rattle.dh_syntax.specs.Command.Words.{Word, command_of, reads, resolves as does_resolve}
+use Rattle.dh_command.specs.Answer.{Does, encodes, decodes, decodes_none, spells, spells_none, takes_steps, helps, tells_version, usage, does, encoded, decoded}
+use Rattle.dh_command.specs.Responses.{Response, answer, misspelt, misused, unread}
+use Rattle.dh_command.specs.Telling.{help_text, version_text}
+use Rattle.dh_steps.specs.StepsAnswer as steps
+use Rattle.dh_steps.specs.StepsAnswer.{StepsAnswer, StepsReply}
+use Rattle.dh_command.specs.Words.{Word, command_of, operand_words, reads, resolves as does_resolve}
 use Rattle.dh_syntax.specs.Expressions.Tree.{Term}
-use Rattle.dh_syntax.specs.Imports.Records.{Record}
+use Rattle.dh_imports.specs.Records.{Record}
 use Rattle.dh_syntax.specs.Limits.{most_bytes}
 use Rattle.dh_syntax.specs.Text.Spelling.{ParsesTo}
 use Rattle.dh_top.proofs.Devices.{alone_status, desk_failed, other_statuses}
@@ -29,18 +32,18 @@ use Rattle.dh_top.specs.Runs.{Input, Makes, answers, cannot_read, FindsFor, Lack
 -- ---- the reply to what a text is parsed to, and to what bytes are decoded to
 
 pub encodes_any : (r : Result Reply AllocError) (text : List ℕ) (o : Result Term ParseFault) → ParsesTo text o
-    → IfOk r (λ x. written x ≡ encoded o) → IfOk r (λ x. Does verb.Encode text nothing_found (written x))
-encodes_any (Ok x) text o p w = encodes o refl p w
+    → IfOk r (λ x. written x ≡ encoded o) → IfOk r (λ x. (ops : List Word) → Does verb.Encode ops text nothing_found (written x))
+encodes_any (Ok x) text o p w = λ ops. encodes o refl p w
 encodes_any (Err e) text o p w = tt
 
 pub decodes_any : (r : Result Reply AllocError) (bytes : List ℕ) (o : Result Term DecodeFault) → length bytes ≤ most_bytes → DecodesTo bytes o
-    → IfOk r (λ x. written x ≡ decoded o) → IfOk r (λ x. Does verb.Decode bytes nothing_found (written x))
-decodes_any (Ok x) bytes o s p w = decodes o refl s p w
+    → IfOk r (λ x. written x ≡ decoded o) → IfOk r (λ x. (ops : List Word) → Does verb.Decode ops bytes nothing_found (written x))
+decodes_any (Ok x) bytes o s p w = λ ops. decodes o refl s p w
 decodes_any (Err e) bytes o s p w = tt
 
 pub decodes_too_large : (r : Result Reply AllocError) (bytes : List ℕ) → most_bytes < length bytes
-    → IfOk r (λ x. written x ≡ misspelt parse.TooLarge) → IfOk r (λ x. Does verb.Decode bytes nothing_found (written x))
-decodes_too_large (Ok x) bytes l w = decodes_none refl l w
+    → IfOk r (λ x. written x ≡ misspelt parse.TooLarge) → IfOk r (λ x. (ops : List Word) → Does verb.Decode ops bytes nothing_found (written x))
+decodes_too_large (Ok x) bytes l w = λ ops. decodes_none refl l w
 decodes_too_large (Err e) bytes l w = tt
 
 -- ---- an input of which only a first part was read, since it is too large
@@ -59,22 +62,31 @@ longer_parse n text (Err (parse.Out at)) m h p = absurd (let s = p.0.0 in let l 
 longer_parse n text (Err parse.TooNested) m h p = absurd (let s = p.0.0 in let l = read_length n text m h in omega (arith, s, l))
 longer_parse n text (Err parse.Memory) m h p = p
 
-longer : (v : Verb) (n : ℕ) (text : List ℕ) (r : Record) (w : Response) → n ≡ 1048577 → n ≤ length text → Does v (take n text) r w → Does v text r w
-longer v n text r w m h (encodes o e p q) = encodes o e (longer_parse n text o m h p) q
-longer v n text r w m h (decodes o e s p q) = absurd (let l = read_length n text m h in omega (arith, s, l))
-longer v n text r w m h (decodes_none e l q) = decodes_none e (omega (arith, m, h)) q
-longer v n text r w m h (spells e o p q) = absurd (let s = p.is_text.0 in let l = read_length n text m h in omega (arith, s, l))
-longer v n text r w m h (spells_none f o p q) = spells_none f o (longer_parse n text (Err f) m h p) q
-longer v n text r w m h (helps e q) = helps e q
-longer v n text r w m h (tells_version e q) = tells_version e q
+longer_steps : (places : List (List ℕ)) (n : ℕ) (text : List ℕ) (s : StepsReply) → n ≡ 1048577 → n ≤ length text → StepsAnswer places (take n text) s → StepsAnswer places text s
+longer_steps places n text s m h (steps.spells_none f p u) = steps.spells_none f (longer_parse n text (Err f) m h p) u
+longer_steps places n text s m h (steps.is_outside e at p q u) = absurd (let k = p.is_text.0 in let l = read_length n text m h in omega (arith, k, l))
+longer_steps places n text s m h (steps.has_no_rule e i p q r u) = absurd (let k = p.is_text.0 in let l = read_length n text m h in omega (arith, k, l))
+longer_steps places n text s m h (steps.grows e i p q r u) = absurd (let k = p.is_text.0 in let l = read_length n text m h in omega (arith, k, l))
+longer_steps places n text s m h (steps.is_normal e f p i q r t u) = absurd (let k = p.is_text.0 in let l = read_length n text m h in omega (arith, k, l))
+longer_steps places n text s m h (steps.is_not_normal e f p i q r t u) = absurd (let k = p.is_text.0 in let l = read_length n text m h in omega (arith, k, l))
+
+longer : (v : Verb) (ops : List Word) (n : ℕ) (text : List ℕ) (r : Record) (w : Response) → n ≡ 1048577 → n ≤ length text → Does v ops (take n text) r w → Does v ops text r w
+longer v ops n text r w m h (encodes o e p q) = encodes o e (longer_parse n text o m h p) q
+longer v ops n text r w m h (decodes o e s p q) = absurd (let l = read_length n text m h in omega (arith, s, l))
+longer v ops n text r w m h (decodes_none e l q) = decodes_none e (omega (arith, m, h)) q
+longer v ops n text r w m h (spells e o p q) = absurd (let s = p.is_text.0 in let l = read_length n text m h in omega (arith, s, l))
+longer v ops n text r w m h (spells_none f o p q) = spells_none f o (longer_parse n text (Err f) m h p) q
+longer v ops n text r w m h (takes_steps places s e k a u) = takes_steps places s e k (longer_steps places n text s m h a) u
+longer v ops n text r w m h (helps e q) = helps e q
+longer v ops n text r w m h (tells_version e q) = tells_version e q
 
 -- what is parsed of it is no expression
 longer_none : {P : Type 0} (n : ℕ) (text : List ℕ) (e : Term) → n ≡ 1048577 → n ≤ length text → ParsesTo (take n text) (Ok e) → P
 longer_none n text e m h p = absurd (let s = p.is_text.0 in let l = read_length n text m h in omega (arith, s, l))
 
 longer_finds : (v : Verb) (n : ℕ) (text : List ℕ) (o : Outside) (r : Record) → n ≡ 1048577 → n ≤ length text → Finds v (take n text) o r → Finds v text o r
-longer_finds v n text o r m h (finds root e pairs t p f by k files own) = longer_none n text root m h p
-longer_finds v n text o r m h (leaves none filed quiet) = leaves none filed quiet
+longer_finds v n text o r m h (finds root e pairs steps t p s a f by k files own) = longer_none n text root m h p
+longer_finds v n text o r m h (leaves none filed asked quiet) = leaves none filed asked quiet
 
 longer_part : (v : Verb) (n : ℕ) (text : List ℕ) (o : Outside) → n ≡ 1048577 → n ≤ length text → FilesPart v (take n text) o → FilesPart v text o
 longer_part v n text o m h (files_none same) = files_none same
@@ -94,11 +106,11 @@ whole_by P n text bytes m e long p = elim (cases_le (length text) n) [
   | inr h ↦ long h (subst P e p)
 ]
 
-whole : (v : Verb) (n : ℕ) (text bytes : List ℕ) (o : Outside) (w : Response) → n ≡ 1048577 → bytes ≡ take n text → Answers v bytes o w → Answers v text o w
-whole v n text bytes o w m e a = record {
+whole : (v : Verb) (ops : List Word) (n : ℕ) (text bytes : List ℕ) (o : Outside) (w : Response) → n ≡ 1048577 → bytes ≡ take n text → Answers v ops bytes o w → Answers v ops text o w
+whole v ops n text bytes o w m e a = record {
   found = a.found;
   finds = whole_by (λ t. Finds v t o a.found) n text bytes m e (λ h. longer_finds v n text o a.found m h) a.finds;
-  does = whole_by (λ t. Does v t a.found w) n text bytes m e (λ h. longer v n text a.found w m h) a.does;
+  does = whole_by (λ t. Does v ops t a.found w) n text bytes m e (λ h. longer v ops n text a.found w m h) a.does;
   devices = a.devices;
 }
 
@@ -115,7 +127,9 @@ resolving_reads verb.Resolve t = refl
 resolving_reads verb.Type t = refl
 resolving_reads verb.Normalize t = refl
 resolving_reads verb.Hash t = refl
+resolving_reads verb.ToJson t = refl
 resolving_reads verb.Freeze t = refl
+resolving_reads verb.Steps t = refl
 resolving_reads verb.Help t = absurd (true≢false (sym t))
 resolving_reads verb.Version t = absurd (true≢false (sym t))
 
@@ -136,23 +150,23 @@ is_left words c text input e t kept = subst (λ r. IsRead r text input) (sym e) 
 finds_for : (words : List Word) (c : Command) (text : List ℕ) (o : Outside) (r : Record) → command_of words ≡ Ok c → Finds c.verb text o r → FindsFor (command_of words) text o r
 finds_for words c text o r e f = subst (λ x. FindsFor x text o r) (sym e) f
 
-made_of : (words : List Word) (c : Command) (text : List ℕ) (input : Input) (o : Outside) (w : Response) → command_of words ≡ Ok c → IsRead (command_of words) text input
-    → Answers c.verb text o w → IsMade words input o w
-made_of words c text input o w e read a = record {
+made_of : (words : List Word) (c : Command) (ops : List Word) (text : List ℕ) (input : Input) (o : Outside) (w : Response) → command_of words ≡ Ok c → operand_words words ≡ ops → IsRead (command_of words) text input
+    → Answers c.verb ops text o w → IsMade words input o w
+made_of words c ops text input o w e os read a = record {
   found = a.found;
-  makes = answers text read (finds_for words c text o a.found e a.finds) (does c e a.does);
+  makes = answers text read (finds_for words c text o a.found e a.finds) (does c e (subst (λ ws. Does c.verb ws text a.found w) (sym os) a.does));
   devices = λ d. desk_failed c.verb text o a.found a.finds (a.devices d);
 }
 
-made : (n : ℕ) (before after : Option (List ℕ)) (f g : ℕ) (words : List Word) (c : Command) (bytes : List ℕ) (o : Outside) (w : Response) → n ≡ 1048577 → command_of words ≡ Ok c
-    → reads c.verb ≡ true → Consumes before after bytes → IfSome before (λ left. bytes ≡ take n left) → g ≡ f → Answers c.verb bytes o w → IsMade words (reading before after f g) o w
-made n None after f g words c bytes o w m e t taken all quiet r =
+made : (n : ℕ) (before after : Option (List ℕ)) (f g : ℕ) (words : List Word) (c : Command) (ops : List Word) (bytes : List ℕ) (o : Outside) (w : Response) → n ≡ 1048577 → command_of words ≡ Ok c → operand_words words ≡ ops
+    → reads c.verb ≡ true → Consumes before after bytes → IfSome before (λ left. bytes ≡ take n left) → g ≡ f → Answers c.verb ops bytes o w → IsMade words (reading before after f g) o w
+made n None after f g words c ops bytes o w m e os t taken all quiet r =
     let input = reading None after f g in
-    made_of words c bytes input o w e (is_read words c bytes input e t (tt, tt, quiet)) r
-made n (Some left) after f g words c bytes o w m e t taken all quiet r =
+    made_of words c ops bytes input o w e os (is_read words c bytes input e t (tt, tt, quiet)) r
+made n (Some left) after f g words c ops bytes o w m e os t taken all quiet r =
     let input = reading (Some left) after f g in
     let part : bytes ≡ take 1048577 left = subst (λ k. bytes ≡ take k left) m all in
-    made_of words c left input o w e (is_read words c left input e t (refl, subst (Consumes (Some left) after) part taken, quiet)) (whole c.verb n left bytes o w m all r)
+    made_of words c ops left input o w e os (is_read words c left input e t (refl, subst (Consumes (Some left) after) part taken, quiet)) (whole c.verb ops n left bytes o w m all r)
 
 lacks : (n : ℕ) (before after : Option (List ℕ)) (f g : ℕ) (words : List Word) (c : Command) (bytes : List ℕ) (o : Outside) → n ≡ 1048577 → command_of words ≡ Ok c
     → Consumes before after bytes → IfSome before (λ left. bytes ≡ take n left) → g ≡ f → FilesPart c.verb bytes o → LacksMemory words (reading before after f g) o
@@ -162,12 +176,12 @@ lacks n (Some left) after f g words c bytes o m e taken all quiet p =
     lacks_late c left e (refl, subst (Consumes (Some left) after) part taken, quiet) (whole_part c.verb n left bytes o m all p)
 
 -- a command on what was read; `bytes` is seen through a slice
-pub performs_command : (c : Command) (n : ℕ) (before after : Option (List ℕ)) (f g : ℕ) (bytes seen : List ℕ) (o : Outside) (r : Result Reply AllocError) → n ≡ 1048577
-    → reads c.verb ≡ true → Consumes before after bytes → IfSome before (λ left. bytes ≡ take n left) → g ≡ f → seen ≡ bytes → IfOk r (λ x. Answers c.verb seen o (written x))
-    → IfOk r (λ x. Performs c (reading before after f g) o (written x))
-performs_command c n before after f g bytes seen o (Ok x) m t taken all quiet s h =
-    λ words e. made n before after f g words c bytes o (written x) m e t taken all quiet (subst (λ t. Answers c.verb t o (written x)) s h)
-performs_command c n before after f g bytes seen o (Err e) m t taken all quiet s h = tt
+pub performs_command : (c : Command) (ops : List Word) (n : ℕ) (before after : Option (List ℕ)) (f g : ℕ) (bytes seen : List ℕ) (o : Outside) (r : Result Reply AllocError) → n ≡ 1048577
+    → reads c.verb ≡ true → Consumes before after bytes → IfSome before (λ left. bytes ≡ take n left) → g ≡ f → seen ≡ bytes → IfOk r (λ x. Answers c.verb ops seen o (written x))
+    → IfOk r (λ x. Performs c ops (reading before after f g) o (written x))
+performs_command c ops n before after f g bytes seen o (Ok x) m t taken all quiet s h =
+    λ words e os. made n before after f g words c ops bytes o (written x) m e os t taken all quiet (subst (λ t. Answers c.verb ops t o (written x)) s h)
+performs_command c ops n before after f g bytes seen o (Err e) m t taken all quiet s h = tt
 
 pub lacks_command : (c : Command) (n : ℕ) (before after : Option (List ℕ)) (f g : ℕ) (bytes seen : List ℕ) (o : Outside) (r : Result Reply AllocError) → n ≡ 1048577
     → Consumes before after bytes → IfSome before (λ left. bytes ≡ take n left) → g ≡ f → seen ≡ bytes → OnErr r (FilesPart c.verb seen o)
@@ -181,11 +195,11 @@ keeps_itself None = tt
 keeps_itself (Some x) = refl
 
 -- a command that leaves its input alone
-pub performs_apart : (c : Command) (left : Option (List ℕ)) (f : ℕ) (text : List ℕ) (o : Outside) (r : Result Reply AllocError) → reads c.verb ≡ false
-    → IfOk r (λ x. Answers c.verb text o (written x)) → IfOk r (λ x. Performs c (reading left left f f) o (written x))
-performs_apart c left f text o (Ok x) idle a =
-    λ words e. made_of words c text (reading left left f f) o (written x) e (is_left words c text (reading left left f f) e idle (keeps_itself left, refl)) a
-performs_apart c left f text o (Err x) idle a = tt
+pub performs_apart : (c : Command) (ops : List Word) (left : Option (List ℕ)) (f : ℕ) (text : List ℕ) (o : Outside) (r : Result Reply AllocError) → reads c.verb ≡ false
+    → IfOk r (λ x. Answers c.verb ops text o (written x)) → IfOk r (λ x. Performs c ops (reading left left f f) o (written x))
+performs_apart c ops left f text o (Ok x) idle a =
+    λ words e os. made_of words c ops text (reading left left f f) o (written x) e os (is_left words c text (reading left left f f) e idle (keeps_itself left, refl)) a
+performs_apart c ops left f text o (Err x) idle a = tt
 
 resolves_none : (v : Verb) → reads v ≡ false → does_resolve v ≡ true → ⊥
 resolves_none v idle t = true≢false (sym (resolving_reads v t) ∙ idle)
@@ -199,10 +213,10 @@ lacks_apart c input text o (Ok x) idle p = tt
 lacks_apart c input text o (Err x) idle p = λ words e. lacks_early (part_apart c.verb text o idle p)
 
 -- an input that could not be read
-pub performs_unread : (c : Command) (input : Input) (o : Outside) (r : Result Reply AllocError) → Rose input.faults_before input.faults_after → IsLeftAlone o
-    → IfOk r (λ x. written x ≡ unread) → IfOk r (λ x. Performs c input o (written x))
-performs_unread c input o (Ok x) rose alone h = λ words e. record { found = nothing_found; makes = cannot_read c e rose alone h; devices = other_statuses (written x) status.Read (ap (λ w. w.status) h) (λ n. omega (arith, n)) }
-performs_unread c input o (Err e) rose alone h = tt
+pub performs_unread : (c : Command) (ops : List Word) (input : Input) (o : Outside) (r : Result Reply AllocError) → Rose input.faults_before input.faults_after → IsLeftAlone o
+    → IfOk r (λ x. written x ≡ unread) → IfOk r (λ x. Performs c ops input o (written x))
+performs_unread c ops input o (Ok x) rose alone h = λ words e os. record { found = nothing_found; makes = cannot_read c e rose alone h; devices = other_statuses (written x) status.Read (ap (λ w. w.status) h) (λ n. omega (arith, n)) }
+performs_unread c ops input o (Err e) rose alone h = tt
 
 -- memory was wanting before anything was kept
 pub lacks_before : {A : Type 0} (c : Command) (input : Input) (o : Outside) (r : Result A AllocError) → o.filed_after ≡ o.filed_before → OnErr r (Lacks c input o)
@@ -210,10 +224,10 @@ lacks_before c input o (Ok x) same = tt
 lacks_before c input o (Err e) same = λ words is. lacks_early same
 
 -- a command by its words
-pub made_by_words : (words : List Word) (c : Command) (input : Input) (o : Outside) (r : Result Reply AllocError) → command_of words ≡ Ok c
-    → IfOk r (λ x. Performs c input o (written x)) → IfOk r (λ x. IsMade words input o (written x))
-made_by_words words c input o (Ok x) e h = h words e
-made_by_words words c input o (Err x) e h = tt
+pub made_by_words : (words : List Word) (c : Command) (ops : List Word) (input : Input) (o : Outside) (r : Result Reply AllocError) → command_of words ≡ Ok c → ops ≡ operand_words words
+    → IfOk r (λ x. Performs c ops input o (written x)) → IfOk r (λ x. IsMade words input o (written x))
+made_by_words words c ops input o (Ok x) e os h = h words e (sym os)
+made_by_words words c ops input o (Err x) e os h = tt
 
 pub lacks_by_words : (words : List Word) (c : Command) (input : Input) (o : Outside) (r : Result Reply AllocError) → command_of words ≡ Ok c
     → OnErr r (Lacks c input o) → OnErr r (LacksMemory words input o)
@@ -236,15 +250,26 @@ lacks_misused words input o (Err e) alone = lacks_early alone.0
 
 -- ---- commands that resolve nothing
 
-pub answers_alone : (v : Verb) (text : List ℕ) (o : Outside) (r : Result Reply AllocError) → does_resolve v ≡ false → IsLeftAlone o → IfOk r (λ x. Does v text nothing_found (written x))
-    → IfOk r (λ x. Answers v text o (written x))
-answers_alone v text o (Ok x) none alone h =
-    record { found = nothing_found; finds = leaves refl alone.0 (λ none. alone.1); does = h; devices = alone_status v text nothing_found (written x) none h }
-answers_alone v text o (Err e) none alone h = tt
+pub answers_alone : (v : Verb) (ops : List Word) (text : List ℕ) (o : Outside) (r : Result Reply AllocError) → does_resolve v ≡ false → IsLeftAlone o → IfOk r (λ x. Does v ops text nothing_found (written x))
+    → IfOk r (λ x. Answers v ops text o (written x))
+answers_alone v ops text o (Ok x) none alone h =
+    record { found = nothing_found; finds = leaves refl alone.0 alone.2 (λ none. alone.1); does = h; devices = alone_status v ops text nothing_found (written x) none h }
+answers_alone v ops text o (Err e) none alone h = tt
 
-pub alone_for : (v u : Verb) (text : List ℕ) (o : Outside) (r : Result Reply AllocError) → v ≡ u → does_resolve u ≡ false → IsLeftAlone o → IfOk r (λ x. Does u text nothing_found (written x))
-    → IfOk r (λ x. Answers v text o (written x))
-alone_for v u text o r same none alone h = subst (λ v. IfOk r (λ x. Answers v text o (written x))) (sym same) (answers_alone u text o r none alone h)
+pub alone_for : (v u : Verb) (ops : List Word) (text : List ℕ) (o : Outside) (r : Result Reply AllocError) → v ≡ u → does_resolve u ≡ false → IsLeftAlone o → IfOk r (λ x. Does u ops text nothing_found (written x))
+    → IfOk r (λ x. Answers v ops text o (written x))
+alone_for v u ops text o r same none alone h = subst (λ v. IfOk r (λ x. Answers v ops text o (written x))) (sym same) (answers_alone u ops text o r none alone h)
+
+-- what is answered whatever the operands
+pub with_operands : (v : Verb) (ops : List Word) (text : List ℕ) (r : Result Reply AllocError) → IfOk r (λ x. (ops : List Word) → Does v ops text nothing_found (written x))
+    → IfOk r (λ x. Does v ops text nothing_found (written x))
+with_operands v ops text (Ok x) h = h ops
+with_operands v ops text (Err e) h = tt
+
+pub answers_with : (v : Verb) (ops : List Word) (text : List ℕ) (o : Outside) (r : Result Reply AllocError) → IfOk r (λ x. (ops : List Word) → Answers v ops text o (written x))
+    → IfOk r (λ x. Answers v ops text o (written x))
+answers_with v ops text o (Ok x) h = h ops
+answers_with v ops text o (Err e) h = tt
 
 pub part_none : {A : Type 0} (v : Verb) (text : List ℕ) (o : Outside) (r : Result A AllocError) → o.filed_after ≡ o.filed_before → OnErr r (FilesPart v text o)
 part_none v text o (Ok x) same = tt
@@ -252,10 +277,10 @@ part_none v text o (Err e) same = files_none same
 
 -- ---- what the program tells of itself
 
-pub helps_any : (r : Result Reply AllocError) (text : List ℕ) → IfOk r (λ x. written x ≡ answer help_text) → IfOk r (λ x. Does verb.Help text nothing_found (written x))
-helps_any (Ok x) text w = helps refl w
-helps_any (Err e) text w = tt
+pub helps_any : (r : Result Reply AllocError) (ops : List Word) (text : List ℕ) → IfOk r (λ x. written x ≡ answer help_text) → IfOk r (λ x. Does verb.Help ops text nothing_found (written x))
+helps_any (Ok x) ops text w = helps refl w
+helps_any (Err e) ops text w = tt
 
-pub tells_version_any : (r : Result Reply AllocError) (text : List ℕ) → IfOk r (λ x. written x ≡ answer version_text) → IfOk r (λ x. Does verb.Version text nothing_found (written x))
-tells_version_any (Ok x) text w = tells_version refl w
-tells_version_any (Err e) text w = tt
+pub tells_version_any : (r : Result Reply AllocError) (ops : List Word) (text : List ℕ) → IfOk r (λ x. written x ≡ answer version_text) → IfOk r (λ x. Does verb.Version ops text nothing_found (written x))
+tells_version_any (Ok x) ops text w = tells_version refl w
+tells_version_any (Err e) ops text w = tt

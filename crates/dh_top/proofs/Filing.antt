@@ -1,13 +1,13 @@
 -- Entries that a desk has kept.
 use Rattle.std.proofs.Common.{◌≡◌, ◌⊎◌, inl, inr, ℕ, zero, suc, ◌+◌, ◌-◌, ◌^◌, ◌≤◌, ◌<◌, List, [], ◌∷◌, ◌++◌, length, map, take, slice_index_or, Option, Some, None, Result, Ok, Err, refl, sym, ap, ◌∙◌, subst, arith}
 use Rattle.std.specs.Prelude.{All, option_map, slice_set, IfOk, OnOk, OnErr}
-use Rattle.std.proofs.lemmas.List.{append_assoc, append-nil, length-append}
+use Rattle.std.proofs.lemmas.List.{append_assoc, append-nil, length-append, length-map}
 use Rattle.std.proofs.Math.Seq.{take-append_seam}
 use Rattle.dh_ports.specs.Counts.{Rose}
 use Rattle.dh_ports.specs.declared.mem_desks.CacheEntry.{CacheEntry}
 use Rattle.dh_syntax.specs.declared.locations.Digest.{Digest}
-use Rattle.dh_syntax.specs.Imports.Machine.{IsAmong}
-use Rattle.dh_syntax.specs.Imports.Replay.{RootEnd, ready, bad, looped, too_many, root_end}
+use Rattle.dh_imports.specs.Machine.{IsAmong}
+use Rattle.dh_imports.specs.Replay.{RootEnd, ready, bad, looped, too_many, root_end}
 use Rattle.dh_syntax.specs.Limits.{most_entry_bytes}
 use Rattle.dh_table.specs.Kept.{IsKeeping, pair_of}
 use Rattle.dh_table.specs.Shown.{Shown}
@@ -145,9 +145,22 @@ pub err_seen : {D T E : Type 0} (P : D → D → Type 0) (seen mid new rest : Li
     → OnErr r (AtFirst P mid (take n (new ++ rest)))
 err_seen P seen mid new rest n r same len k = on_err_map r (written_back P seen mid new rest n same len) k
 
+-- a count that each desk keeps
+pub same_seen : {D : Type 0} (f : D → ℕ) (seen mid new rest : List D) (n : ℕ) → seen ≡ mid → n ≡ length mid → map f new ≡ map f seen → map f (take n (new ++ rest)) ≡ map f mid
+same_seen f seen mid new rest n same len k =
+    let lens : length new ≡ length seen = sym (length-map new f) ∙ (ap length k ∙ length-map seen f) in
+    let all : n ≡ length new = len ∙ (sym (ap length same) ∙ sym lens) in
+    let whole : take n (new ++ rest) ≡ new = ap (λ m. take m (new ++ rest)) all ∙ take-append_seam new rest in
+    ap (map f) whole ∙ (k ∙ ap (map f) same)
+
 pub first_set : {D : Type 0} (P : D → D → Type 0) (ds : List D) (d e : D) → 0 < length ds → P (slice_index_or ds 0 d) e → AtFirst P ds (slice_set ds 0 e)
 first_set P [] d e some p = absurd (omega (arith, some))
 first_set P (x ∷ xs) d e some p = at_first p
+
+-- a count that the first desk keeps
+pub first_same : {D : Type 0} (f : D → ℕ) (ds : List D) (d e : D) → 0 < length ds → f e ≡ f (slice_index_or ds 0 d) → map f (slice_set ds 0 e) ≡ map f ds
+first_same f [] d e some h = absurd (omega (arith, some))
+first_same f (x ∷ xs) d e some h = ap (λ n. n ∷ map f xs) h
 
 -- ---- entries that may be kept
 

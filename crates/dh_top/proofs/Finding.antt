@@ -1,22 +1,22 @@
 -- What a run found by its desks.
-use Rattle.std.proofs.Common.{◌≡◌, ◌⊎◌, inl, inr, ℕ, zero, suc, ◌+◌, ◌-◌, ◌^◌, ◌≤◌, ◌<◌, List, [], ◌∷◌, ◌++◌, map, reverse, Option, Some, None, IfSome, Result, Ok, Err, refl, sym, ap, ◌∙◌, subst, arith}
-use Rattle.std.specs.Prelude.{All, Any, count_by, sum_by}
+use Rattle.std.proofs.Common.{◌≡◌, ◌⊎◌, inl, inr, ℕ, zero, suc, ◌+◌, ◌-◌, ◌^◌, ◌≤◌, ◌<◌, List, [], ◌∷◌, ◌++◌, map, reverse, Bool, true, false, Option, Some, None, IfSome, Result, Ok, Err, refl, sym, ap, ◌∙◌, subst, arith}
+use Rattle.std.specs.Prelude.{All, Any, cond, count_by, sum_by}
 use Rattle.std.proofs.lemmas.List.Elements.{All-head, All-tail}
-use Rattle.std.proofs.lemmas.List.Sums.{sum_by-cons}
+use Rattle.std.proofs.lemmas.List.Sums.{sum_by-append, sum_by-cons}
 use Rattle.dh_syntax.specs.declared.faults.ParseFault.{ParseFault}
 use Rattle.dh_syntax.specs.declared.locations.Digest.{Digest}
 use Rattle.dh_syntax.specs.declared.locations.Key.{Key}
 use Rattle.dh_syntax.specs.declared.locations.Loc.{Loc}
-use Rattle.dh_syntax.specs.declared.outcomes.Why.{Why}
+use Rattle.dh_imports.specs.declared.outcomes.Why.{Why}
 use Rattle.dh_syntax.specs.Expressions.SameTree.{digest_eq, loc_eq}
 use Rattle.dh_syntax.specs.Expressions.Tree.{Term}
-use Rattle.dh_syntax.specs.Imports.LastStep.{Code, own}
-use Rattle.dh_syntax.specs.Imports.Machine.{IsAmong, State, after_all, outcome_of, stage_of}
-use Rattle.dh_syntax.specs.Imports.Outcomes.{Outcome}
-use Rattle.dh_syntax.specs.Imports.Readings.{AreOutcomes}
-use Rattle.dh_syntax.specs.Imports.Records as found
-use Rattle.dh_syntax.specs.Imports.Records.{Noted, Seen, IsGood, IsLimitOf, text_at, look_at, limit_at}
-use Rattle.dh_syntax.specs.Imports.Resolver.{Has, Resolves}
+use Rattle.dh_imports.specs.LastStep.{Code, own}
+use Rattle.dh_imports.specs.Machine.{IsAmong, Event, State, Task, after_all, outcome_of, stage_of}
+use Rattle.dh_imports.specs.Outcomes.{Outcome}
+use Rattle.dh_imports.specs.Readings.{AreOutcomes}
+use Rattle.dh_imports.specs.Records as found
+use Rattle.dh_imports.specs.Records.{Noted, Seen, IsGood, IsLimitOf, text_at, look_at, limit_at}
+use Rattle.dh_imports.specs.Resolver.{Has, Resolves}
 use Rattle.dh_syntax.specs.Text.Spelling.{ParsesTo}
 use Rattle.dh_import_laws.proofs.Facts.{texts_are_parsed, entries_are_good, limits_are_licensed}
 use Rattle.dh_import_laws.proofs.Laws.{outcomes_are_resolved}
@@ -34,10 +34,18 @@ use Rattle.dh_table.specs.declared.texts.Text.{Text}
 use Rattle.dh_table.specs.Brought.{IsTold, IsShelved, AreTold, AreShelved}
 use Rattle.dh_table.specs.Calls.{failures}
 use Rattle.dh_table.specs.Shown.{Shown}
-use Rattle.dh_table.specs.States.{IsReplayed, noted_by, scanned, seen_by, text_of, look_of, record_of, state_of}
-use Rattle.dh_session.specs.Ended.{FailsAll, NoneFell, none_left, more_left}
+use Rattle.dh_table.specs.States.{IsReplayed, step_by, noted_by, scanned, seen_by, text_of, look_of, record_of, state_of}
+use Rattle.dh_session.specs.Ended.{AsksAll, FailsAll, NoneFell, none_left, more_left}
+use Rattle.dh_shared.specs.Counting as counting
+use Rattle.dh_syntax.specs.Expressions.Bridge.{term}
+use Rattle.dh_imports.specs.Machine as machine
+use Rattle.dh_imports.specs.Replay as replay
+use Rattle.dh_table.specs.declared.steps.Kind.TheVariants as kinds
+use Rattle.dh_table.specs.declared.steps.Step.{Step}
+use Rattle.dh_table.specs.declared.steps.Step.TheVariants as steps
+use Rattle.dh_table.specs.declared.texts.Entrant.{Entrant}
 use Rattle.dh_session.specs.Works.{AtLast}
-use Rattle.dh_top.specs.Outside.{Outside, Pair, outside, got_of, IsTextTold, IsSeenOf, IsLookTold, IsLimitLicensed, IsFound, total}
+use Rattle.dh_top.specs.Outside.{Outside, Pair, outside, got_of, IsTextTold, IsSeenOf, IsLookTold, IsLimitLicensed, IsFound, is_fetch_claim, total}
 
 -- ---- what is recorded is what was told
 
@@ -119,10 +127,10 @@ LimitAt s k w = (e : Term) × (allow : Option (List ℕ)) × (stage_of s k ≡ H
 licensed_at : (s : State) (k : Key) (w : Why) → AreOutcomes s.recorded (outcome_of s) → LimitAt s k w → IsLimitLicensed s.recorded k w
 licensed_at s k w asks (e, allow, due, licensed, known) = record { ask = outcome_of s; asks = asks; code = e; allow = allow; due = due; licensed = licensed }
 
-pub found_by : (told : Loc → Option Got) (shelved : Digest → Option (Option (List ℕ))) {D : Type 0} (faults : D → ℕ) (filed : D → Option (List Pair)) (before mid after : List D) (t : Shown)
+pub found_by : (told : Loc → Option Got) (shelved : Digest → Option (Option (List ℕ))) {D : Type 0} (asked faults : D → ℕ) (filed : D → Option (List Pair)) (before mid after : List D) (t : Shown)
     → AreTold told t.texts → AreShelved shelved t.looks → IsReplayed t → FailsAll faults before mid t → NoneFell (map faults mid) (map faults after)
-    → IsFound (outside told shelved faults filed before after) (record_of t)
-found_by told shelved faults filed before mid after t texts looks r fails rise = record {
+    → IsFound (outside told shelved asked faults filed before after) (record_of t)
+found_by told shelved asked faults filed before mid after t texts looks r fails rise = record {
   one_text = λ l. subst (λ s. count_by (λ (x : Loc × Noted). loc_eq x.0 l) s.recorded.texts ≤ 1) r.state_is (texts_are_recorded_once (state_of t).root r.events l r.lawful);
   one_look = λ d. subst (λ s. count_by (λ (x : Digest × Seen). digest_eq x.0 d) s.recorded.looks ≤ 1) r.state_is (looks_are_recorded_once (state_of t).root r.events d r.lawful);
   texts = all_recorded text_of (λ (x : Text). IsTold (told x.loc) x.got) (IsTextTold o) (λ x h. noted_told (told x.loc) x.got (scanned x.read) h) t.texts texts;
@@ -135,7 +143,7 @@ found_by told shelved faults filed before mid after t texts looks r fails rise =
 }
   where
     o : Outside
-    o = outside told shelved faults filed before after
+    o = outside told shelved asked faults filed before after
 
     resolved : (k : Key) (x : Outcome) → outcome_of (state_of t) k ≡ Some x → Resolves (record_of t) k x
     resolved k x h =
@@ -144,3 +152,59 @@ found_by told shelved faults filed before mid after t texts looks r fails rise =
 
     limit_of_key : (k : Key) (w : Why) → LimitAt (after_all (state_of t).root r.events) k w → IsLimitLicensed (record_of t) k w
     limit_of_key k w l = licensed_at (state_of t) k w resolved (subst (λ s. LimitAt s k w) r.state_is l)
+
+-- ---- how it was found
+
+-- the same step, in the table's history and in the machine's
+abbrev fetch_step : replay.Step → Bool
+fetch_step (replay.Claim w replay.fetching n) = true
+fetch_step _ = false
+
+step_same : (ks : List Entrant) (s : Step) → fetch_step (step_by ks s) ≡ counting.is_fetch_claim s
+step_same ks (steps.Claim w kinds.Fetch n) = refl
+step_same ks (steps.Claim w kinds.Look n) = refl
+step_same ks (steps.Claim w kinds.Finish n) = refl
+step_same ks (steps.Release n) = refl
+step_same ks (steps.Fetched n) = refl
+step_same ks (steps.Looked n) = refl
+step_same ks (steps.Finished n) = refl
+step_same ks (steps.Late n) = refl
+step_same ks (steps.Cycled k) = refl
+
+event_same : (drawn : List Task) (e : Event) → fetch_step (replay.step_of drawn e) ≡ is_fetch_claim e
+event_same drawn (machine.Claim w (machine.Fetch l)) = refl
+event_same drawn (machine.Claim w (machine.Look d)) = refl
+event_same drawn (machine.Claim w (machine.Finish k)) = refl
+event_same drawn (machine.Release n) = refl
+event_same drawn (machine.Fetched n l t) = refl
+event_same drawn (machine.Looked n d l) = refl
+event_same drawn (machine.Finished n k i l o) = refl
+event_same drawn (machine.Late n news) = refl
+event_same drawn (machine.Cycled k) = refl
+
+-- so many of the first kind as of the second
+counts_mapped : {A B : Type 0} (f : A → B) (p : B → Bool) (q : A → Bool) → ((x : A) → p (f x) ≡ q x) → (xs : List A) → count_by p (map f xs) ≡ count_by q xs
+counts_mapped f p q same [] = refl
+counts_mapped f p q same (x ∷ xs) =
+    sum_by-cons (λ b. cond (p b) 1 0) (f x) (map f xs)
+    ∙ (ap (λ b. cond b 1 0 + count_by p (map f xs)) (same x) ∙ ap (λ n. cond (q x) 1 0 + n) (counts_mapped f p q same xs))
+    ∙ sym (sum_by-cons (λ y. cond (q y) 1 0) x xs)
+
+counts_events : (root : Term) (es : List Event) → count_by fetch_step (replay.steps root es) ≡ count_by is_fetch_claim es
+counts_events root [] = refl
+counts_events root (e ∷ es) =
+    let last = replay.step_of (after_all root es).drawn e in
+    sum_by-append (λ s. cond (fetch_step s) 1 0) (replay.steps root es) (last ∷ [])
+    ∙ omega (arith, counts_events root es, sum_by-cons (λ s. cond (fetch_step s) 1 0) last [], sum_by-cons (λ x. cond (is_fetch_claim x) 1 0) e es, ap {B = ℕ} (λ b. cond b 1 0) (event_same (after_all root es).drawn e))
+
+-- the fetches that were claimed, in the table's history and in the machine's
+claims_same : (t : Shown) (r : IsReplayed t) → count_by counting.is_fetch_claim t.history ≡ count_by is_fetch_claim r.events
+claims_same t r =
+    sym (counts_mapped (step_by t.keys) fetch_step counting.is_fetch_claim (step_same t.keys) t.history)
+    ∙ (ap (count_by fetch_step) (sym r.history_is) ∙ counts_events (term t.root.expr) r.events)
+
+pub asks_by : {D : Type 0} (asked : D → ℕ) (before mid after : List D) (t : Shown) (r : IsReplayed t) → AsksAll asked before mid t → map asked after ≡ map asked mid
+    → Any AtLast (map asked after) ⊎ (total (map asked after) ≡ total (map asked before) + count_by is_fetch_claim r.events)
+asks_by asked before mid after t r (inl last) same = inl (subst (λ ns. Any AtLast ns) (sym same) (last_map asked mid last))
+asks_by asked before mid after t r (inr sums) same =
+    inr (ap total same ∙ omega (arith, sums, total_map asked before, total_map asked mid, claims_same t r))

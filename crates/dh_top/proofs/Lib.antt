@@ -1,3 +1,4 @@
+pub mod Causes
 pub mod Closing
 pub mod Commands
 pub mod Devices
@@ -6,10 +7,15 @@ pub mod Filing
 pub mod Finding
 pub mod Forms
 pub mod Normals
+pub mod Operands
 pub mod PlacedReplies
 pub mod Reading
 pub mod Resolutions
 pub mod RunLaws
+pub mod SettledRuns
+pub mod Spelled
+pub mod StepReplies
 pub mod TypedReplies
 pub mod Using
+pub mod WarmRuns
 pub mod Writing

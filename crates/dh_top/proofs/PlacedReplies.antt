@@ -3,17 +3,17 @@ use Rattle.std.proofs.Common.{◌≡◌, ℕ, List, Option, Result, Ok, Err, IfO
 use Rattle.std.specs.declared.alloc.AllocError.{AllocError}
 use Rattle.dh_syntax.specs.declared.faults.Ill.{Ill}
 use Rattle.dh_syntax.specs.declared.locations.Key.{Key}
-use Rattle.dh_syntax.specs.declared.statuses.Status.TheVariants as status
-use Rattle.dh_syntax.specs.Command.Answer.{Response, fault}
-use Rattle.dh_syntax.specs.Command.ImportFaults.{in_item}
-use Rattle.dh_syntax.specs.Command.PlacedFaults.{placed_line, ill_line_at}
+use Rattle.dh_command.specs.declared.statuses.Status.TheVariants as status
+use Rattle.dh_command.specs.Responses.{Response, fault}
+use Rattle.dh_imports.specs.ImportFaults.{in_item}
+use Rattle.dh_command.specs.PlacedFaults.{placed_line, ill_line_at}
 use Rattle.dh_syntax.specs.Expressions.Tree.{Term}
 use Rattle.dh_syntax.specs.Text.Places.{start_of, line_at, column_at}
 use Rattle.dh_syntax.specs.Text.Spans.{Spans, SpellsAt}
 use Rattle.dh_syntax.specs.Text.Spelling.{ParsesTo}
 use Rattle.dh_top.specs.declared.replies.Reply.{Reply}
 use Rattle.dh_top.specs.Replies.{written, TellsPlace}
-use Rattle.dh_top.proofs.RunLaws.{same_term}
+use Rattle.dh_top.proofs.Spelled.{same_term}
 
 pub told_at : (r : Result Reply AllocError) (at : Option Key) (text : List ℕ) (d : Term) (nodes : Spans) (path : List ℕ) (f : Ill) (l c : ℕ) (bytes : List ℕ)
     → SpellsAt text d nodes → l ≡ line_at text (start_of nodes path) → c ≡ column_at text (start_of nodes path) → bytes ≡ placed_line f l c

@@ -10,23 +10,25 @@ use Rattle.dh_syntax.specs.declared.faults.TypeFault.TheVariants as type_faults
 use Rattle.dh_syntax.specs.declared.locations.Digest.{Digest}
 use Rattle.dh_syntax.specs.declared.locations.Key.{Key}
 use Rattle.dh_syntax.specs.declared.locations.Loc.{Loc}
-use Rattle.dh_syntax.specs.declared.outcomes.Blame.{Blame}
-use Rattle.dh_syntax.specs.declared.outcomes.Why.{Why}
-use Rattle.dh_syntax.specs.declared.outcomes.Why.TheVariants as whys
-use Rattle.dh_syntax.specs.declared.statuses.Status.TheVariants as status
-use Rattle.dh_syntax.specs.declared.verbs.Verb.{Verb}
-use Rattle.dh_syntax.specs.Command.Answer.{Response, Does, ResolvedAnswer, FaultAnswer, IsIllLine, at_fault, why_alone, with_place, overfull, spells, spells_none, fault, misspelt, too_many_keys}
-use Rattle.dh_syntax.specs.Command.ImportFaults.{ill_of, in_item, why_line, why_status}
-use Rattle.dh_syntax.specs.Command.Words.{resolves as does_resolve}
+use Rattle.dh_imports.specs.declared.outcomes.Blame.{Blame}
+use Rattle.dh_imports.specs.declared.outcomes.Why.{Why}
+use Rattle.dh_imports.specs.declared.outcomes.Why.TheVariants as whys
+use Rattle.dh_command.specs.declared.statuses.Status.TheVariants as status
+use Rattle.dh_command.specs.declared.verbs.Verb.{Verb}
+use Rattle.dh_command.specs.Answer.{Does, ResolvedAnswer, FaultAnswer, IsIllLine, at_fault, why_alone, with_place, overfull, spells, spells_none, too_many_keys}
+use Rattle.dh_command.specs.Responses.{Response, fault, misspelt}
+use Rattle.dh_imports.specs.ImportFaults.{ill_of, in_item, why_line}
+use Rattle.dh_command.specs.Statuses.{why_status}
+use Rattle.dh_command.specs.Words.{Word, resolves as does_resolve}
 use Rattle.dh_syntax.specs.Expressions.Tree.{Term}
-use Rattle.dh_syntax.specs.Imports.Machine.{opening, outcome_of, root_walk}
-use Rattle.dh_syntax.specs.Imports.Readings.{Reading}
-use Rattle.dh_syntax.specs.Imports.Records as found
-use Rattle.dh_syntax.specs.Imports.Records.{Record, Found, text_at}
-use Rattle.dh_syntax.specs.Imports.Replay.{RootEnd, ready, bad, looped, too_many, has_too_many, root_end}
-use Rattle.dh_syntax.specs.Imports.RootEnds.{EndsBy, overflows}
-use Rattle.dh_syntax.specs.Imports.TextPaths.{text_path}
-use Rattle.dh_syntax.specs.Imports.Walk.{Ask, Fails}
+use Rattle.dh_imports.specs.Machine.{after_all, Lawful, opening, outcome_of, root_walk}
+use Rattle.dh_imports.specs.Readings.{Reading}
+use Rattle.dh_imports.specs.Records as found
+use Rattle.dh_imports.specs.Records.{Record, Found, text_at}
+use Rattle.dh_imports.specs.Replay.{RootEnd, ready, bad, looped, too_many, has_too_many, root_end}
+use Rattle.dh_imports.specs.RootEnds.{EndsBy, overflows}
+use Rattle.dh_imports.specs.TextPaths.{text_path}
+use Rattle.dh_imports.specs.Walk.{Ask, Fails}
 use Rattle.dh_syntax.specs.Text.Spelling.{ParsesTo}
 use Rattle.dh_laws.proofs.KeyOrder.{none-some, some-equal}
 use Rattle.dh_import_laws.proofs.Facts.{texts_are_parsed}
@@ -41,15 +43,15 @@ use Rattle.dh_table.specs.Brought.{AreTold, AreShelved}
 use Rattle.dh_table.specs.Kept.{IsKeeping, pair_of}
 use Rattle.dh_table.specs.Shown.{Shown}
 use Rattle.dh_table.specs.States.{IsReplayed, record_of, state_of}
-use Rattle.dh_session.specs.Ended.{FailsAll, NoneFell, none_left, more_left}
+use Rattle.dh_session.specs.Ended.{AsksAll, FailsAll, NoneFell, none_left, more_left}
 use Rattle.dh_session.specs.Works.{AtLast}
 use Rattle.dh_top.specs.declared.replies.Reply.{Reply}
-use Rattle.dh_top.specs.Outside.{Outside, Pair, outside, first_of, AtFirst, at_first, FilesAll, FilesSome, Finds, finds, leaves, FilesPart, files_none, files_some, IsFound, KeepsBy, failures, nothing_found, total}
+use Rattle.dh_top.specs.Outside.{Outside, Pair, outside, first_of, AtFirst, at_first, FilesAll, FilesSome, Finds, finds, leaves, FilesPart, files_none, files_some, IsFound, IsHistory, KeepsBy, failures, nothing_found, total}
 use Rattle.dh_top.specs.Replies.{written, Answers, IsClosed, TellsPlace}
 use Rattle.dh_top.proofs.Closing.{WalkedTo, walked}
 use Rattle.dh_top.proofs.Devices.{failed_found, other_statuses, resolved_device}
 use Rattle.dh_top.proofs.RunLaws.{one_root_end}
-use Rattle.dh_top.proofs.Finding.{none_fell_itself, rise_last, mapped, found_by}
+use Rattle.dh_top.proofs.Finding.{asks_by, none_fell_itself, rise_last, mapped, found_by}
 use Rattle.dh_top.proofs.TypedReplies.{line_told}
 
 -- ---- a fault that decides
@@ -186,29 +188,36 @@ part_at_first faults filed pairs before mid after same (at_first {d = d} {d' = e
     (h.1.0, record { some = h.1.1.some; filed_is = h.1.1.filed_is ∙ ap (λ a. option_map (λ old. old ++ h.1.0) a) (ap (first_of None) same) })
 
 -- What is known of a run that resolved this root over these desks, before anything is kept.
-pub record IsResolved (told : Loc → Option Got) (shelved : Digest → Option (Option (List ℕ))) {D : Type 0} (faults : D → ℕ) (filed : D → Option (List Pair)) (before mid : List D)
+pub record IsResolved (told : Loc → Option Got) (shelved : Digest → Option (Option (List ℕ))) {D : Type 0} (asked faults : D → ℕ) (filed : D → Option (List Pair)) (before mid : List D)
     (root : Term) (t : Shown) (ended : Ended) (pairs : List Pair) : Type 0 where
   pub root_is : (state_of t).root ≡ root
   pub texts : AreTold told t.texts
   pub looks : AreShelved shelved t.looks
   pub replayed : IsReplayed t
+  pub asks : AsksAll asked before mid t
   pub fails : FailsAll faults before mid t
   pub fell : NoneFell (map faults before) (map faults mid)
   pub filed_is : map filed mid ≡ map filed before
   pub closed : IsClosed t ended
   pub keeps : IsKeeping (state_of t) (root_end (state_of t)) pairs
 
-module _ (told : Loc → Option Got) (shelved : Digest → Option (Option (List ℕ))) {D : Type 0} (faults : D → ℕ) (filed : D → Option (List Pair)) (before mid after : List D)
+module _ (told : Loc → Option Got) (shelved : Digest → Option (Option (List ℕ))) {D : Type 0} (asked faults : D → ℕ) (filed : D → Option (List Pair)) (before mid after : List D)
     (v : Verb) (text : List ℕ) (root : Term) (t : Shown) (ended : Ended) (pairs : List Pair)
-    (s : IsResolved told shelved faults filed before mid root t ended pairs) (takes : IsTrue (does_resolve v)) (spelled : ParsesTo text (Ok root)) where
+    (s : IsResolved told shelved asked faults filed before mid root t ended pairs) (asks_same : map asked after ≡ map asked mid) (takes : IsTrue (does_resolve v)) (spelled : ParsesTo text (Ok root)) where
   by_root : EndsBy (record_of t) root s.closed.end
   by_root = subst (λ r. EndsBy (record_of t) r s.closed.end) s.root_is s.closed.by
 
   kept_by : KeepsBy (record_of t) root s.closed.end pairs
   kept_by = subst (λ r. KeepsBy (record_of t) r s.closed.end pairs) s.root_is (keeps_by t s.closed.end pairs s.closed.at_end s.keeps)
 
-  found_here : {P : D → D → Type 0} → Keeping faults P mid after → IsFound (outside told shelved faults filed before after) (record_of t)
-  found_here k = found_by told shelved faults filed before mid after t s.texts s.looks s.replayed s.fails (rises faults k)
+  came : IsHistory root (record_of t) s.replayed.events
+  came = record {
+    lawful = subst (λ r. Lawful r s.replayed.events) s.root_is s.replayed.lawful;
+    record_is = subst (λ r. (after_all r s.replayed.events).recorded ≡ record_of t) s.root_is (ap (λ z. z.recorded) s.replayed.state_is);
+  }
+
+  found_here : {P : D → D → Type 0} → Keeping faults P mid after → IsFound (outside told shelved asked faults filed before after) (record_of t)
+  found_here k = found_by told shelved asked faults filed before mid after t s.texts s.looks s.replayed s.fails (rises faults k)
 
   failure_found : (b : Blame) → EndsBy (record_of t) (state_of t).root (bad b) → b.why ≡ whys.Failed → 0 < failures (record_of t)
   failure_found b by failed =
@@ -217,29 +226,29 @@ module _ (told : Loc → Option Got) (shelved : Digest → Option (Option (List 
       let there = root_failures_are_recorded (state_of t).root s.replayed.events b s.replayed.lawful (subst (λ x. root_walk x ≡ Fails b) (sym s.replayed.state_is) walk) failed in
       failed_found (record_of t) there.0 (subst (λ x. text_at x.recorded there.0 ≡ Some found.Failed) s.replayed.state_is there.1)
 
-  answered_one : (w : Response) → Keeping faults (λ d e. FilesAll (faults d) (faults e) (filed d) (filed e) pairs) mid after
-      → ResolvedAnswer v text (state_of t).root (record_of t) w → Answers v text (outside told shelved faults filed before after) w
-  answered_one w k a = record {
+  answered_one : (ops : List Word) (w : Response) → Keeping faults (λ d e. FilesAll (faults d) (faults e) (filed d) (filed e) pairs) mid after
+      → ResolvedAnswer v text (state_of t).root (record_of t) w → Answers v ops text (outside told shelved asked faults filed before after) w
+  answered_one ops w k a = record {
     found = record_of t;
-    finds = finds root s.closed.end pairs takes spelled (found_here k) by_root kept_by (all_at_first faults filed pairs before mid after s.fell s.filed_is k)
+    finds = finds root s.closed.end pairs s.replayed.events takes spelled came (asks_by asked before mid after t s.replayed s.asks asks_same) (found_here k) by_root kept_by (all_at_first faults filed pairs before mid after s.fell s.filed_is k)
         (all_faults faults filed (failures (record_of t)) pairs before mid after s.fell s.filed_is k s.fails);
     does = spells root takes spelled (subst (λ r. ResolvedAnswer v text r (record_of t) w) s.root_is a);
     devices = λ d. resolved_device v text (state_of t).root (record_of t) w a d (λ b by failed. failure_found b by failed);
   }
 
-  part_one : Keeping faults (λ d e. (kept : List Pair) × FilesSome (filed d) (filed e) pairs kept) mid after → FilesPart v text (outside told shelved faults filed before after)
+  part_one : Keeping faults (λ d e. (kept : List Pair) × FilesSome (filed d) (filed e) pairs kept) mid after → FilesPart v text (outside told shelved asked faults filed before after)
   part_one k = go (part_at_first faults filed pairs before mid after s.filed_is k)
     where
-      go : (kept : List Pair) × FilesSome (first_of None (map filed before)) (first_of None (map filed after)) pairs kept → FilesPart v text (outside told shelved faults filed before after)
+      go : (kept : List Pair) × FilesSome (first_of None (map filed before)) (first_of None (map filed after)) pairs kept → FilesPart v text (outside told shelved asked faults filed before after)
       go (kept, files) = files_some root s.closed.end (record_of t) pairs kept takes spelled (found_here k) by_root kept_by files
 
   pub answered : (r : Result Reply AllocError) → OnOk r (Keeping faults (λ d e. FilesAll (faults d) (faults e) (filed d) (filed e) pairs) mid after)
-      → IfOk r (λ x. ResolvedAnswer v text (state_of t).root (record_of t) (written x)) → IfOk r (λ x. Answers v text (outside told shelved faults filed before after) (written x))
-  answered (Ok x) k a = answered_one (written x) k a
+      → IfOk r (λ x. ResolvedAnswer v text (state_of t).root (record_of t) (written x)) → IfOk r (λ x. (ops : List Word) → Answers v ops text (outside told shelved asked faults filed before after) (written x))
+  answered (Ok x) k a = λ ops. answered_one ops (written x) k a
   answered (Err e) k a = tt
 
   pub answered_none : (r : Result Reply AllocError) → OnErr r (Keeping faults (λ d e. (kept : List Pair) × FilesSome (filed d) (filed e) pairs kept) mid after)
-      → OnErr r (FilesPart v text (outside told shelved faults filed before after))
+      → OnErr r (FilesPart v text (outside told shelved asked faults filed before after))
   answered_none (Ok x) k = tt
   answered_none (Err e) k = part_one k
 
@@ -249,23 +258,23 @@ resolves_not : (v : Verb) {P : Type 0} → IsTrue (does_resolve v) → does_reso
 resolves_not v t f = absurd (true≢false (sym t ∙ f))
 
 pub too_many_answered : (r : Result Reply AllocError) (v : Verb) (text : List ℕ) (root : Term) (o : Outside) (at : Option Key) → at ≡ None → IsTrue (does_resolve v) → ParsesTo text (Ok root)
-    → o.filed_after ≡ o.filed_before → has_too_many (opening root) ≡ true → IfOk r (λ x. written x ≡ fault (in_item at (why_line whys.TooMany)) (why_status whys.TooMany))
-    → IfOk r (λ x. Answers v text o (written x))
-too_many_answered (Ok x) v text root o at none takes spelled same many w = record {
+    → o.filed_after ≡ o.filed_before → o.asked_after ≡ o.asked_before → has_too_many (opening root) ≡ true → IfOk r (λ x. written x ≡ fault (in_item at (why_line whys.TooMany)) (why_status whys.TooMany))
+    → IfOk r (λ x. (ops : List Word) → Answers v ops text o (written x))
+too_many_answered (Ok x) v text root o at none takes spelled same quiet many w = λ ops. record {
   found = nothing_found;
-  finds = leaves refl same (λ f. resolves_not v takes f);
+  finds = leaves refl same quiet (λ f. resolves_not v takes f);
   does = spells root takes spelled
       (overfull (overflows many) (at_fault (why_line whys.TooMany) (why_alone refl refl) (w ∙ ap (λ a. fault (in_item a (why_line whys.TooMany)) (why_status whys.TooMany)) none)));
   devices = other_statuses (written x) status.Limit (ap (λ w. w.status) w) (λ n. omega (arith, n));
 }
-too_many_answered (Err e) v text root o at none takes spelled same many w = tt
+too_many_answered (Err e) v text root o at none takes spelled same quiet many w = tt
 
 pub misspelt_answered : (r : Result Reply AllocError) (v : Verb) (text : List ℕ) (f : ParseFault) (o : Outside) → IsTrue (does_resolve v) → ParsesTo text (Err f)
-    → o.filed_after ≡ o.filed_before → IfOk r (λ x. written x ≡ misspelt f) → IfOk r (λ x. Answers v text o (written x))
-misspelt_answered (Ok x) v text f o takes p same w = record {
+    → o.filed_after ≡ o.filed_before → o.asked_after ≡ o.asked_before → IfOk r (λ x. written x ≡ misspelt f) → IfOk r (λ x. (ops : List Word) → Answers v ops text o (written x))
+misspelt_answered (Ok x) v text f o takes p same quiet w = λ ops. record {
   found = nothing_found;
-  finds = leaves refl same (λ none. resolves_not v takes none);
+  finds = leaves refl same quiet (λ none. resolves_not v takes none);
   does = spells_none f takes p w;
   devices = other_statuses (written x) status.Text (ap (λ w. w.status) w) (λ n. omega (arith, n));
 }
-misspelt_answered (Err e) v text f o takes p same w = tt
+misspelt_answered (Err e) v text f o takes p same quiet w = tt

@@ -5,22 +5,23 @@ use Rattle.std.specs.declared.alloc.AllocError.{AllocError}
 use Rattle.dh_grammar.proofs.Results.Answering.{parses_once}
 use Rattle.dh_ports.specs.Counts.{Rose}
 use Rattle.dh_syntax.proofs.BinaryFaultLaws.{decodes-unique}
-use Rattle.dh_syntax.specs.declared.commands.Command.{Command}
+use Rattle.dh_command.specs.declared.commands.Command.{Command}
 use Rattle.dh_syntax.specs.declared.faults.DecodeFault.{DecodeFault}
 use Rattle.dh_syntax.specs.declared.faults.ParseFault.{ParseFault}
-use Rattle.dh_syntax.specs.declared.statuses.Status.{Status}
-use Rattle.dh_syntax.specs.declared.statuses.Status.TheVariants as status
-use Rattle.dh_syntax.specs.declared.verbs.Verb.{Verb}
-use Rattle.dh_syntax.specs.declared.verbs.Verb.TheVariants as verb
-use Rattle.dh_syntax.specs.Command.Answer.{Response, Does, ResolvedAnswer, ValuedAnswer, encodes, decodes, decodes_none, spells, spells_none, helps, tells_version, valued, faulty, circular, overfull, itself, frozen, typed, usage, does, encoded, decoded, without_memory, Succeeds, SucceedsBy, SucceedsOn}
-use Rattle.dh_syntax.specs.Command.Words.{Word, command_of, reads, resolves as does_resolve}
+use Rattle.dh_command.specs.declared.statuses.Status.{Status}
+use Rattle.dh_command.specs.declared.statuses.Status.TheVariants as status
+use Rattle.dh_command.specs.declared.verbs.Verb.{Verb}
+use Rattle.dh_command.specs.declared.verbs.Verb.TheVariants as verb
+use Rattle.dh_command.specs.Answer.{Does, ResolvedAnswer, ValuedAnswer, encodes, decodes, decodes_none, spells, spells_none, takes_steps, helps, tells_version, valued, faulty, circular, overfull, itself, frozen, typed, usage, does, encoded, decoded, Succeeds, SucceedsBy, SucceedsOn}
+use Rattle.dh_command.specs.Responses.{Response, without_memory}
+use Rattle.dh_command.specs.Words.{Word, command_of, operand_words, reads, resolves as does_resolve}
 use Rattle.dh_syntax.specs.Expressions.Tree.{Term}
-use Rattle.dh_syntax.specs.Imports.Readings.{Reading, root_reading}
-use Rattle.dh_syntax.specs.Imports.Records.{Record}
-use Rattle.dh_syntax.specs.Imports.Replay.{RootEnd, ready, bad, looped, too_many, end_of}
-use Rattle.dh_syntax.specs.Imports.Resolver.{ResolvesRoot, resolve}
-use Rattle.dh_syntax.specs.Imports.RootEnds.{EndsBy, resolved, overflows}
-use Rattle.dh_syntax.specs.Imports.Walk.{Walked, Ready, Fails, Turns, Needs, walk}
+use Rattle.dh_imports.specs.Readings.{Reading, root_reading}
+use Rattle.dh_imports.specs.Records.{Record}
+use Rattle.dh_imports.specs.Replay.{RootEnd, ready, bad, looped, too_many, end_of}
+use Rattle.dh_imports.specs.Resolver.{ResolvesRoot, resolve}
+use Rattle.dh_imports.specs.RootEnds.{EndsBy, resolved, overflows}
+use Rattle.dh_imports.specs.Walk.{Walked, Ready, Fails, Turns, Needs, walk}
 use Rattle.dh_syntax.specs.Text.Spelling.{ParsesTo}
 use Rattle.dh_laws.proofs.KeyOrder.{none-some, some-equal}
 use Rattle.dh_import_laws.specs.ImportLaws.{IsDecided}
@@ -30,6 +31,8 @@ use Rattle.dh_import_laws.proofs.Walks.{Knows, Grown, walk-grown}
 use Rattle.dh_top.proofs.Devices.{told_device}
 use Rattle.dh_top.proofs.Encodings.{resolving_reads}
 use Rattle.dh_top.proofs.Normals.{type_ends_ok, form_ends_ok}
+use Rattle.dh_top.proofs.Spelled.{not_both, same_term}
+use Rattle.dh_top.proofs.StepReplies.{steps_end_ok}
 use Rattle.dh_top.specs.declared.replies.Reply.{Reply}
 use Rattle.dh_top.specs.Outside.{Outside, nothing_found}
 use Rattle.dh_top.specs.Replies.{written, IsMade}
@@ -58,11 +61,13 @@ number verb.Resolve = 2
 number verb.Type = 3
 number verb.Normalize = 4
 number verb.Hash = 5
-number verb.Freeze = 6
-number verb.Help = 7
-number verb.Version = 8
+number verb.ToJson = 6
+number verb.Freeze = 7
+number verb.Steps = 8
+number verb.Help = 9
+number verb.Version = 10
 
-apart : (u v : Verb) → u ≡ v → (number u ≡ number v → ⊥) → ⊥
+pub apart : (u v : Verb) → u ≡ v → (number u ≡ number v → ⊥) → ⊥
 apart u v e n = n (ap number e)
 
 taken_by : (b : Bool) (text : List ℕ) (input : Input) → b ≡ true → MatchBool b (IsTaken text input) (IsLeft input) → IsTaken text input
@@ -75,21 +80,6 @@ ok_when_parsed o e h = ap (λ o. (encoded o).status) h
 
 ok_when_read : (o : Result Term DecodeFault) (e : Term) → o ≡ Ok e → (decoded o).status ≡ status.Ok
 ok_when_read o e h = ap (λ o. (decoded o).status) h
-
--- one expression is spelled, or none
-abbrev term_of : Result Term ParseFault → Term → Term
-term_of (Ok e) d = e
-term_of (Err f) d = d
-
-pub same_term : (text : List ℕ) (e f : Term) → ParsesTo text (Ok e) → ParsesTo text (Ok f) → e ≡ f
-same_term text e f p q = ap (λ r. term_of r e) (parses_once text (Ok e) (Ok f) p q)
-
-abbrev is_spelled : Result Term ParseFault → Bool
-is_spelled (Ok e) = true
-is_spelled (Err f) = false
-
-pub not_both : (text : List ℕ) (e : Term) (f : ParseFault) → ParsesTo text (Ok e) → ParsesTo text (Err f) → ⊥
-not_both text e f p q = true≢false (ap is_spelled (parses_once text (Ok e) (Err f) p q))
 
 -- ---- a root that ends well
 
@@ -144,16 +134,17 @@ resolved_done v text r root e w by ok (overfull here a) = absurd (true≢false (
 unresolved : (u v : Verb) → does_resolve u ≡ false → IsTrue (does_resolve v) → v ≡ u → ⊥
 unresolved u v n t h = true≢false (sym (subst (λ v. does_resolve v ≡ true) h t) ∙ n)
 
-done_by : (v : Verb) (text : List ℕ) (r : Record) (w : Response) → IsTrue (does_resolve v) → SucceedsBy v text r
-    → ((e : Term) → SucceedsOn v e → (i : Reading) → ValuedAnswer v i e w → w.status ≡ status.Ok) → Does v text r w → w.status ≡ status.Ok
-done_by v text r w t s ok (encodes o h p q) = absurd (unresolved verb.Encode v refl t h)
-done_by v text r w t s ok (decodes o h l p q) = absurd (unresolved verb.Decode v refl t h)
-done_by v text r w t s ok (decodes_none h l q) = absurd (unresolved verb.Decode v refl t h)
-done_by v text r w t (root, e, p, by, on) ok (spells d h q a) =
+done_by : (v : Verb) (ops : List Word) (text : List ℕ) (r : Record) (w : Response) → IsTrue (does_resolve v) → SucceedsBy v text r
+    → ((e : Term) → SucceedsOn v e → (i : Reading) → ValuedAnswer v i e w → w.status ≡ status.Ok) → Does v ops text r w → w.status ≡ status.Ok
+done_by v ops text r w t s ok (encodes o h p q) = absurd (unresolved verb.Encode v refl t h)
+done_by v ops text r w t s ok (decodes o h l p q) = absurd (unresolved verb.Decode v refl t h)
+done_by v ops text r w t s ok (decodes_none h l q) = absurd (unresolved verb.Decode v refl t h)
+done_by v ops text r w t (root, e, p, by, on) ok (spells d h q a) =
     resolved_done v text r d e w (subst (λ d. EndsBy r d (ready e)) (same_term text root d p q) by) (ok e on) a
-done_by v text r w t (root, e, p, by, on) ok (spells_none f h q u) = absurd (not_both text root f p q)
-done_by v text r w t s ok (helps h q) = absurd (unresolved verb.Help v refl t h)
-done_by v text r w t s ok (tells_version h q) = absurd (unresolved verb.Version v refl t h)
+done_by v ops text r w t (root, e, p, by, on) ok (spells_none f h q u) = absurd (not_both text root f p q)
+done_by v ops text r w t s ok (takes_steps places x h n a u) = absurd (unresolved verb.Steps v refl t h)
+done_by v ops text r w t s ok (helps h q) = absurd (unresolved verb.Help v refl t h)
+done_by v ops text r w t s ok (tells_version h q) = absurd (unresolved verb.Version v refl t h)
 
 resolve_ok : (w : Response) (e : Term) → SucceedsOn verb.Resolve e → (i : Reading) → ValuedAnswer verb.Resolve i e w → w.status ≡ status.Ok
 resolve_ok w e s i (itself h u) = ap (λ w. w.status) u
@@ -168,12 +159,17 @@ type_ok w e s i (typed t a) = type_ends_ok i e w s a
 normalize_ok : (w : Response) (e : Term) → SucceedsOn verb.Normalize e → (i : Reading) → ValuedAnswer verb.Normalize i e w → w.status ≡ status.Ok
 normalize_ok w e s i (itself h u) = absurd (apart _ _ h (λ n. omega (arith, n)))
 normalize_ok w e s i (frozen bytes h z u) = absurd (apart _ _ h (λ n. omega (arith, n)))
-normalize_ok w e s i (typed t a) = form_ends_ok verb.Normalize i e w s.0 s.1 a
+normalize_ok w e s i (typed t a) = form_ends_ok verb.Normalize i e w s.0 s.1 (λ h. absurd (apart _ _ h (λ n. omega (arith, n)))) a
 
 hash_ok : (w : Response) (e : Term) → SucceedsOn verb.Hash e → (i : Reading) → ValuedAnswer verb.Hash i e w → w.status ≡ status.Ok
 hash_ok w e s i (itself h u) = absurd (apart _ _ h (λ n. omega (arith, n)))
 hash_ok w e s i (frozen bytes h z u) = absurd (apart _ _ h (λ n. omega (arith, n)))
-hash_ok w e s i (typed t a) = form_ends_ok verb.Hash i e w s.0 s.1 a
+hash_ok w e s i (typed t a) = form_ends_ok verb.Hash i e w s.0 s.1 (λ h. absurd (apart _ _ h (λ n. omega (arith, n)))) a
+
+json_ok : (w : Response) (e : Term) → SucceedsOn verb.ToJson e → (i : Reading) → ValuedAnswer verb.ToJson i e w → w.status ≡ status.Ok
+json_ok w e s i (itself h u) = absurd (apart _ _ h (λ n. omega (arith, n)))
+json_ok w e s i (frozen bytes h z u) = absurd (apart _ _ h (λ n. omega (arith, n)))
+json_ok w e s i (typed t a) = form_ends_ok verb.ToJson i e w s.0 s.1 (λ h. s.2) a
 
 freeze_ok : (w : Response) (e : Term) → SucceedsOn verb.Freeze e → (i : Reading) → ValuedAnswer verb.Freeze i e w → w.status ≡ status.Ok
 freeze_ok w e s i (itself h u) = absurd (apart _ _ h (λ n. omega (arith, n)))
@@ -184,37 +180,49 @@ freeze_ok w e s i (typed t a) = absurd (true≢false (sym t))
 read_not : (u v : Verb) → reads u ≡ true → reads v ≡ false → v ≡ u → ⊥
 read_not u v t n e = true≢false (sym (ap reads e ∙ t) ∙ n)
 
-told_ok : (v : Verb) (text : List ℕ) (r : Record) (w : Response) → reads v ≡ false → Does v text r w → w.status ≡ status.Ok
-told_ok v text r w n (encodes o h p q) = absurd (read_not verb.Encode v refl n h)
-told_ok v text r w n (decodes o h l p q) = absurd (read_not verb.Decode v refl n h)
-told_ok v text r w n (decodes_none h l q) = absurd (read_not verb.Decode v refl n h)
-told_ok v text r w n (spells d h q a) = absurd (true≢false (sym (resolving_reads v h) ∙ n))
-told_ok v text r w n (spells_none g h q u) = absurd (true≢false (sym (resolving_reads v h) ∙ n))
-told_ok v text r w n (helps h q) = ap (λ w. w.status) q
-told_ok v text r w n (tells_version h q) = ap (λ w. w.status) q
+told_ok : (v : Verb) (ops : List Word) (text : List ℕ) (r : Record) (w : Response) → reads v ≡ false → Does v ops text r w → w.status ≡ status.Ok
+told_ok v ops text r w n (encodes o h p q) = absurd (read_not verb.Encode v refl n h)
+told_ok v ops text r w n (decodes o h l p q) = absurd (read_not verb.Decode v refl n h)
+told_ok v ops text r w n (decodes_none h l q) = absurd (read_not verb.Decode v refl n h)
+told_ok v ops text r w n (spells d h q a) = absurd (true≢false (sym (resolving_reads v h) ∙ n))
+told_ok v ops text r w n (spells_none g h q u) = absurd (true≢false (sym (resolving_reads v h) ∙ n))
+told_ok v ops text r w n (takes_steps places x h k a u) = absurd (read_not verb.Steps v refl n h)
+told_ok v ops text r w n (helps h q) = ap (λ w. w.status) q
+told_ok v ops text r w n (tells_version h q) = ap (λ w. w.status) q
 
-done : (v : Verb) (text : List ℕ) (r : Record) (w : Response) → Succeeds v text r → Does v text r w → w.status ≡ status.Ok
-done verb.Encode text r w s (encodes o h p q) = ap (λ w. w.status) q ∙ ok_when_parsed o s.0 (parses_once text o (Ok s.0) p s.1)
-done verb.Encode text r w s (decodes o h l p q) = absurd (apart _ _ h (λ n. omega (arith, n)))
-done verb.Encode text r w s (decodes_none h l q) = absurd (apart _ _ h (λ n. omega (arith, n)))
-done verb.Encode text r w s (spells d h q a) = absurd (true≢false (sym h))
-done verb.Encode text r w s (spells_none g h q u) = absurd (true≢false (sym h))
-done verb.Encode text r w s (helps h q) = absurd (apart _ _ h (λ n. omega (arith, n)))
-done verb.Encode text r w s (tells_version h q) = absurd (apart _ _ h (λ n. omega (arith, n)))
-done verb.Decode text r w s (encodes o h p q) = absurd (apart _ _ h (λ n. omega (arith, n)))
-done verb.Decode text r w s (decodes o h l p q) = ap (λ w. w.status) q ∙ ok_when_read o s.0 (decodes-unique text o (Ok s.0) p s.2)
-done verb.Decode text r w s (decodes_none h l q) = absurd (let k = s.1 in omega (arith, k, l))
-done verb.Decode text r w s (spells d h q a) = absurd (true≢false (sym h))
-done verb.Decode text r w s (spells_none g h q u) = absurd (true≢false (sym h))
-done verb.Decode text r w s (helps h q) = absurd (apart _ _ h (λ n. omega (arith, n)))
-done verb.Decode text r w s (tells_version h q) = absurd (apart _ _ h (λ n. omega (arith, n)))
-done verb.Resolve text r w s d = done_by verb.Resolve text r w refl s (resolve_ok w) d
-done verb.Type text r w s d = done_by verb.Type text r w refl s (type_ok w) d
-done verb.Normalize text r w s d = done_by verb.Normalize text r w refl s (normalize_ok w) d
-done verb.Hash text r w s d = done_by verb.Hash text r w refl s (hash_ok w) d
-done verb.Freeze text r w s d = done_by verb.Freeze text r w refl s (freeze_ok w) d
-done verb.Help text r w s d = told_ok verb.Help text r w refl d
-done verb.Version text r w s d = told_ok verb.Version text r w refl d
+done : (v : Verb) (ops : List Word) (text : List ℕ) (r : Record) (w : Response) → Succeeds v ops text r → Does v ops text r w → w.status ≡ status.Ok
+done verb.Encode ops text r w s (encodes o h p q) = ap (λ w. w.status) q ∙ ok_when_parsed o s.0 (parses_once text o (Ok s.0) p s.1)
+done verb.Encode ops text r w s (decodes o h l p q) = absurd (apart _ _ h (λ n. omega (arith, n)))
+done verb.Encode ops text r w s (decodes_none h l q) = absurd (apart _ _ h (λ n. omega (arith, n)))
+done verb.Encode ops text r w s (spells d h q a) = absurd (true≢false (sym h))
+done verb.Encode ops text r w s (spells_none g h q u) = absurd (true≢false (sym h))
+done verb.Encode ops text r w s (takes_steps places x h n a u) = absurd (apart _ _ h (λ n. omega (arith, n)))
+done verb.Encode ops text r w s (helps h q) = absurd (apart _ _ h (λ n. omega (arith, n)))
+done verb.Encode ops text r w s (tells_version h q) = absurd (apart _ _ h (λ n. omega (arith, n)))
+done verb.Decode ops text r w s (encodes o h p q) = absurd (apart _ _ h (λ n. omega (arith, n)))
+done verb.Decode ops text r w s (decodes o h l p q) = ap (λ w. w.status) q ∙ ok_when_read o s.0 (decodes-unique text o (Ok s.0) p s.2)
+done verb.Decode ops text r w s (decodes_none h l q) = absurd (let k = s.1 in omega (arith, k, l))
+done verb.Decode ops text r w s (spells d h q a) = absurd (true≢false (sym h))
+done verb.Decode ops text r w s (spells_none g h q u) = absurd (true≢false (sym h))
+done verb.Decode ops text r w s (takes_steps places x h n a u) = absurd (apart _ _ h (λ n. omega (arith, n)))
+done verb.Decode ops text r w s (helps h q) = absurd (apart _ _ h (λ n. omega (arith, n)))
+done verb.Decode ops text r w s (tells_version h q) = absurd (apart _ _ h (λ n. omega (arith, n)))
+done verb.Resolve ops text r w s d = done_by verb.Resolve ops text r w refl s (resolve_ok w) d
+done verb.Type ops text r w s d = done_by verb.Type ops text r w refl s (type_ok w) d
+done verb.Normalize ops text r w s d = done_by verb.Normalize ops text r w refl s (normalize_ok w) d
+done verb.Hash ops text r w s d = done_by verb.Hash ops text r w refl s (hash_ok w) d
+done verb.ToJson ops text r w s d = done_by verb.ToJson ops text r w refl s (json_ok w) d
+done verb.Freeze ops text r w s d = done_by verb.Freeze ops text r w refl s (freeze_ok w) d
+done verb.Steps ops text r w s (encodes o h p q) = absurd (apart _ _ h (λ n. omega (arith, n)))
+done verb.Steps ops text r w s (decodes o h l p q) = absurd (apart _ _ h (λ n. omega (arith, n)))
+done verb.Steps ops text r w s (decodes_none h l q) = absurd (apart _ _ h (λ n. omega (arith, n)))
+done verb.Steps ops text r w s (spells d h q a) = absurd (true≢false (sym h))
+done verb.Steps ops text r w s (spells_none g h q u) = absurd (true≢false (sym h))
+done verb.Steps ops text r w s (takes_steps places x h n a u) = steps_end_ok ops places text x w s n a u
+done verb.Steps ops text r w s (helps h q) = absurd (apart _ _ h (λ n. omega (arith, n)))
+done verb.Steps ops text r w s (tells_version h q) = absurd (apart _ _ h (λ n. omega (arith, n)))
+done verb.Help ops text r w s d = told_ok verb.Help ops text r w refl d
+done verb.Version ops text r w s d = told_ok verb.Version ops text r w refl d
 
 same_text : (words : List Word) (c : Command) (text left : List ℕ) (input : Input) → reads c.verb ≡ true → input.before ≡ Some left → command_of words ≡ Ok c
     → IsRead (command_of words) text input → text ≡ left
@@ -223,16 +231,16 @@ same_text words c text left input t b e r =
     subst (λ o. IfSome o (λ l. text ≡ l)) b (taken_by (reads c.verb) text input t read).0
 
 ends_ok : (reading : Bool) (words : List Word) (c : Command) (text left : List ℕ) (input : Input) (r : Record) (w : Response) → reads c.verb ≡ reading → input.before ≡ Some left
-    → command_of words ≡ Ok c → IsRead (command_of words) text input → Succeeds c.verb left r → Does c.verb text r w → w.status ≡ status.Ok
-ends_ok true words c text left input r w t b e read s q = done c.verb left r w s (subst (λ t. Does c.verb t r w) (same_text words c text left input t b e read) q)
-ends_ok false words c text left input r w t b e read s q = told_ok c.verb text r w t q
+    → command_of words ≡ Ok c → IsRead (command_of words) text input → Succeeds c.verb (operand_words words) left r → Does c.verb (operand_words words) text r w → w.status ≡ status.Ok
+ends_ok true words c text left input r w t b e read s q = done c.verb (operand_words words) left r w s (subst (λ t. Does c.verb (operand_words words) t r w) (same_text words c text left input t b e read) q)
+ends_ok false words c text left input r w t b e read s q = told_ok c.verb (operand_words words) text r w t q
 
 fine : (words : List Word) (c : Command) (left : List ℕ) (input : Input) (o : Outside) (r : Record) (w : Response) → input.before ≡ Some left → command_of words ≡ Ok c
-    → Succeeds c.verb left r → (Rose input.faults_before input.faults_after → ⊥) → Makes words input o r w → (w.status ≡ status.Ok) ⊎ (w.status ≡ status.Memory)
+    → Succeeds c.verb (operand_words words) left r → (Rose input.faults_before input.faults_after → ⊥) → Makes words input o r w → (w.status ≡ status.Ok) ⊎ (w.status ≡ status.Memory)
 fine words c left input o r w b e s n (answers text read f (usage k h u)) = absurd (ok_not_err c k (command_of words) e h)
 fine words c left input o r w b e s n (answers text read f (does d h q)) =
     let one = ok_is c d (command_of words) e h in
-    inl (ends_ok (reads c.verb) words c text left input r w refl b e read s (subst (λ (d : Command). Does d.verb text r w) (sym one) q))
+    inl (ends_ok (reads c.verb) words c text left input r w refl b e read s (subst (λ (d : Command). Does d.verb (operand_words words) text r w) (sym one) q))
 fine words c left input o r w b e s n (cannot_read d h rose alone u) = absurd (n rose)
 fine words c left input o r w b e s n (lacks_memory l u) = inr (ap (λ w. w.status) u)
 

@@ -7,21 +7,22 @@ use Rattle.dh_syntax.specs.declared.faults.NormFault.{NormFault}
 use Rattle.dh_syntax.specs.declared.faults.NormFault.TheVariants as limit
 use Rattle.dh_syntax.specs.declared.locations.Digest.{Digest}
 use Rattle.dh_syntax.specs.declared.locations.Key.{Key}
-use Rattle.dh_syntax.specs.declared.statuses.Status.TheVariants as status
-use Rattle.dh_syntax.specs.declared.verbs.Verb.{Verb}
-use Rattle.dh_syntax.specs.declared.verbs.Verb.TheVariants as verb
-use Rattle.dh_syntax.specs.Command.Answer.{Response, TypedAnswer, ValuedAnswer, Prints, IsIllLine, IsTyped, IsLimit, prints, refuses, limited, itself, frozen, typed, its_type, its_form, its_digest, digest_line, answer, fault, line}
-use Rattle.dh_syntax.specs.Command.FaultLines.{norm_fault_line}
-use Rattle.dh_syntax.specs.Command.FrozenTexts.{IsFrozenText}
-use Rattle.dh_syntax.specs.Command.ImportFaults.{in_item}
-use Rattle.dh_syntax.specs.Command.PlacedFaults.{ill_line_at}
-use Rattle.dh_syntax.specs.Command.Words.{resolves as does_resolve, types, takes_form}
+use Rattle.dh_command.specs.declared.statuses.Status.TheVariants as status
+use Rattle.dh_command.specs.declared.verbs.Verb.{Verb}
+use Rattle.dh_command.specs.declared.verbs.Verb.TheVariants as verb
+use Rattle.dh_command.specs.Answer.{TypedAnswer, ValuedAnswer, Prints, IsIllLine, IsTyped, IsLimit, prints, refuses, limited, itself, frozen, typed, no_value, its_type, its_form, its_value, its_digest, digest_line}
+use Rattle.dh_command.specs.Responses.{Response, answer, fault, line}
+use Rattle.dh_syntax.specs.FaultLines.{norm_fault_line}
+use Rattle.dh_imports.specs.FrozenTexts.{IsFrozenText}
+use Rattle.dh_imports.specs.ImportFaults.{in_item}
+use Rattle.dh_command.specs.PlacedFaults.{ill_line_at}
+use Rattle.dh_command.specs.Words.{resolves as does_resolve, types, takes_form}
 use Rattle.dh_syntax.specs.Expressions.Nesting.{nesting}
 use Rattle.dh_syntax.specs.Expressions.Tree.{Term}
-use Rattle.dh_syntax.specs.Imports.LastStep.{digest_of}
-use Rattle.dh_syntax.specs.Imports.Readings.{Reading, root_reading}
-use Rattle.dh_syntax.specs.Imports.TextPaths.{text_path}
-use Rattle.dh_syntax.specs.Imports.Walk.{Ask}
+use Rattle.dh_syntax.specs.Bytes.Digests.{digest_of}
+use Rattle.dh_imports.specs.Readings.{Reading, root_reading}
+use Rattle.dh_imports.specs.TextPaths.{text_path}
+use Rattle.dh_imports.specs.Walk.{Ask}
 use Rattle.dh_syntax.specs.Limits.{most_nesting, whole_purse}
 use Rattle.dh_syntax.specs.Normalising.Named.{names}
 use Rattle.dh_syntax.specs.Normalising.Normal.{HasNormalForm, IsLicensed}
@@ -31,7 +32,10 @@ use Rattle.dh_syntax.specs.Text.Spans.{Spans, SpellsAt}
 use Rattle.dh_syntax.specs.Text.Spelling.{ParsesTo}
 use Rattle.dh_syntax.specs.Typing.NamedTyping.{IsIll, IsTypeLimit}
 use Rattle.dh_top.specs.declared.replies.Reply.{Reply}
-use Rattle.dh_top.specs.Replies.{written, TellsPlace}
+use Rattle.dh_top.specs.Replies.{written, IsJsonReply, TellsPlace}
+use Rattle.dh_json.specs.JsonValue.{json}
+use Rattle.serde_json.specs.Data.{Data}
+use Rattle.serde_json.specs.Written.{compact_text}
 
 -- the printed type
 pub type_printed : (r : Result Reply AllocError) (v : Verb) (e t : Term) → v ≡ verb.Type → IsTyped e t → nesting t ≤ most_nesting
@@ -50,6 +54,17 @@ pub digest_printed : (r : Result Reply AllocError) (e f : Term) (d : Digest) →
 digest_printed (Ok x) e f d has h n same w =
     λ i. prints has.0 (digest_line (digest_of f)) has.1 (its_digest f h n) (w ∙ ap (λ d. answer (line (digest_line d))) same)
 digest_printed (Err x) e f d has h n same w = tt
+
+json_told : (e f : Term) (o : Result Data (List ℕ)) (w : Response) → (t : Term) × IsTyped e t → HasNormalForm names e f → nesting f ≤ most_nesting → json f ≡ o → IsJsonReply o w
+    → (i : Reading) → TypedAnswer verb.ToJson i e w
+json_told e f (Ok d) w has h n same told i = prints has.0 (compact_text d) has.1 (its_value f d h n same) told
+json_told e f (Err place) w has h n same told i = no_value has.0 f place refl has.1 h n same told
+
+-- the JSON text of the normal form, or its first place without a value
+pub value_printed : (r : Result Reply AllocError) (e f : Term) → (t : Term) × IsTyped e t → HasNormalForm names e f → nesting f ≤ most_nesting
+    → IfOk r (λ x. IsJsonReply (json f) (written x)) → IfOk r (λ x. (i : Reading) → TypedAnswer verb.ToJson i e (written x))
+value_printed (Ok x) e f has h n told = json_told e f (json f) (written x) has h n refl told
+value_printed (Err x) e f has h n told = tt
 
 pub form_limited : (r : Result Reply AllocError) (v : Verb) (e : Term) (l : NormFault) → IsTrue (takes_form v) → (t : Term) × IsTyped e t → IsLicensed names nesting whole_purse e l
     → IfOk r (λ x. (l ≡ limit.Memory → ⊥) × (written x ≡ fault (norm_fault_line l) status.Limit)) → IfOk r (λ x. (i : Reading) → TypedAnswer v i e (written x))
@@ -101,6 +116,8 @@ types_of verb.Resolve t n m = absurd (n refl)
 types_of verb.Type t n m = refl
 types_of verb.Normalize t n m = refl
 types_of verb.Hash t n m = refl
+types_of verb.ToJson t n m = refl
+types_of verb.Steps t n m = absurd (true≢false (sym t))
 types_of verb.Freeze t n m = absurd (m refl)
 types_of verb.Help t n m = absurd (true≢false (sym t))
 types_of verb.Version t n m = absurd (true≢false (sym t))

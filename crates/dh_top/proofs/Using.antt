@@ -2,8 +2,8 @@
 use Rattle.std.proofs.Common.{◌≡◌, ℕ, zero, suc, ◌+◌, ◌<◌, List, map, drop, Option, Bool, true, false, true≢false, if◌then◌else◌, Result, Ok, Err, refl, sym, ap, ◌∙◌, subst, arith}
 use Rattle.std.specs.Prelude.{IsTrue, OnOk, OnErr, max, min}
 use Rattle.std.proofs.lemmas.List.{drop-drop, drop-map}
-use Rattle.dh_syntax.specs.declared.commands.Command.{Command}
-use Rattle.dh_syntax.specs.Command.Words.{Word, command_of, resolves as does_resolve}
+use Rattle.dh_command.specs.declared.commands.Command.{Command}
+use Rattle.dh_command.specs.Words.{Word, command_of, resolves as does_resolve}
 use Rattle.dh_top.specs.Outside.{Pair, AtFirst, at_first, UsesFirst, desks_of, desks_for}
 
 -- ---- the first desk alone was used for what is kept

@@ -1,26 +1,26 @@
 -- What the desks of a run show, and what the run found and kept by them.
-use Rattle.std.specs.Prelude.{◌≡◌, ◌⊎◌, ℕ, ◌+◌, ◌≤◌, max, min, false, if◌then◌else◌, List, [], ◌∷◌, ◌++◌, map, drop, length, sum_by, count_by, Any, Option, Some, None, option_map, IfSome, Ok, Err, ⊤}
+use Rattle.std.specs.Prelude.{◌≡◌, ◌⊎◌, ℕ, ◌+◌, ◌≤◌, max, min, Bool, true, false, if◌then◌else◌, List, [], ◌∷◌, ◌++◌, map, drop, length, sum_by, count_by, Any, Option, Some, None, option_map, IfSome, Ok, Err, ⊤}
 use Rattle.std.specs.Prelude.{IsTrue, Result}
-use Rattle.dh_syntax.specs.declared.commands.Command.{Command}
+use Rattle.dh_command.specs.declared.commands.Command.{Command}
 use Rattle.dh_syntax.specs.declared.faults.ParseFault.{ParseFault}
 use Rattle.dh_syntax.specs.declared.locations.Digest.{Digest}
 use Rattle.dh_syntax.specs.declared.locations.Key.{Key}
 use Rattle.dh_syntax.specs.declared.locations.Loc.{Loc}
-use Rattle.dh_syntax.specs.declared.outcomes.Why.{Why}
-use Rattle.dh_syntax.specs.declared.verbs.Verb.{Verb}
-use Rattle.dh_syntax.specs.Command.Words.{resolves as does_resolve}
+use Rattle.dh_imports.specs.declared.outcomes.Why.{Why}
+use Rattle.dh_command.specs.declared.verbs.Verb.{Verb}
+use Rattle.dh_command.specs.Words.{resolves as does_resolve}
 use Rattle.dh_syntax.specs.Expressions.SameTree.{digest_eq, loc_eq}
 use Rattle.dh_syntax.specs.Expressions.Tree.{Term}
-use Rattle.dh_syntax.specs.Imports.Keeps.{AreKeeps}
-use Rattle.dh_syntax.specs.Imports.LastStep.{Code}
-use Rattle.dh_syntax.specs.Imports.Machine.{IsAmong}
-use Rattle.dh_syntax.specs.Imports.Readings.{AreOutcomes}
-use Rattle.dh_syntax.specs.Imports.Records as found
-use Rattle.dh_syntax.specs.Imports.Records.{Record, Noted, Seen, IsGood, IsLimitOf, text_at, look_at, limit_at}
-use Rattle.dh_syntax.specs.Imports.Replay.{RootEnd, ready, bad, looped, too_many}
-use Rattle.dh_syntax.specs.Imports.Resolver.{Has, resolve, stage}
-use Rattle.dh_syntax.specs.Imports.RootEnds.{EndsBy}
-use Rattle.dh_syntax.specs.Imports.Walk.{Ask}
+use Rattle.dh_imports.specs.Keeps.{AreKeeps}
+use Rattle.dh_imports.specs.LastStep.{Code}
+use Rattle.dh_imports.specs.Machine.{IsAmong, Event, Claim, Fetch, after_all, Lawful}
+use Rattle.dh_imports.specs.Readings.{AreOutcomes}
+use Rattle.dh_imports.specs.Records as found
+use Rattle.dh_imports.specs.Records.{Record, Noted, Seen, IsGood, IsLimitOf, text_at, look_at, limit_at}
+use Rattle.dh_imports.specs.Replay.{RootEnd, ready, bad, looped, too_many}
+use Rattle.dh_imports.specs.Resolver.{Has, resolve, stage}
+use Rattle.dh_imports.specs.RootEnds.{EndsBy}
+use Rattle.dh_imports.specs.Walk.{Ask}
 use Rattle.dh_syntax.specs.Text.Spelling.{ParsesTo}
 use Rattle.dh_ports.specs.Desks.{Tells, shown}
 use Rattle.dh_ports.specs.declared.worlds.Got.{Got}
@@ -32,11 +32,13 @@ use Rattle.dh_session.specs.Works.{AtLast}
 abbrev pub Pair : Type 0
 Pair = Digest × List ℕ
 
--- What the world tells; how many calls of each desk have failed, before and after; and what the first desk has kept, before and after,
--- where that is told.
+-- What the world tells; how many texts each desk was asked for and how many of its calls have failed, before and after; and what the
+-- first desk has kept, before and after, where that is told.
 pub record Outside : Type 0 where
   pub told : Loc → Option Got
   pub shelved : Digest → Option (Option (List ℕ))
+  pub asked_before : List ℕ
+  pub asked_after : List ℕ
   pub faults_before : List ℕ
   pub faults_after : List ℕ
   pub filed_before : Option (List Pair)
@@ -47,10 +49,12 @@ first_of a [] = a
 first_of a (b ∷ bs) = b
 
 -- desks before and after, in a world that tells this
-abbrev pub outside : (Loc → Option Got) → (Digest → Option (Option (List ℕ))) → {D : Type 0} → (D → ℕ) → (D → Option (List Pair)) → List D → List D → Outside
-outside told shelved faults filed before after = record {
+abbrev pub outside : (Loc → Option Got) → (Digest → Option (Option (List ℕ))) → {D : Type 0} → (D → ℕ) → (D → ℕ) → (D → Option (List Pair)) → List D → List D → Outside
+outside told shelved asked faults filed before after = record {
   told = told;
   shelved = shelved;
+  asked_before = map asked before;
+  asked_after = map asked after;
   faults_before = map faults before;
   faults_after = map faults after;
   filed_before = first_of None (map filed before);
@@ -128,6 +132,23 @@ pub record IsFound (o : Outside) (r : Record) : Type 0 where
   pub limits : (k : Key) (w : Why) → limit_at r k ≡ Some w → IsLimitLicensed r k w
   pub faults : Any AtLast o.faults_after ⊎ (failures r + total o.faults_before ≤ total o.faults_after)
 
+-- ---- how it was found
+
+-- the claim of a fetch
+abbrev pub is_fetch_claim : Event → Bool
+is_fetch_claim (Claim worker (Fetch l)) = true
+is_fetch_claim _ = false
+
+-- The steps by which a run over this root came to its record, the latest first. The rules of the table allowed each of them when it was
+-- made. So a claim of a fetch or of a look is of what the walk of the root wanted then.
+pub record IsHistory (root : Term) (r : Record) (steps : List Event) : Type 0 where
+  pub lawful : Lawful root steps
+  pub record_is : (after_all root steps).recorded ≡ r
+
+-- the desks were asked for one text in each of these steps that claims a fetch, unless a count stands at its last value
+abbrev pub AsksFor : Outside → List Event → Type 0
+AsksFor o steps = Any AtLast o.asked_after ⊎ (total o.asked_after ≡ total o.asked_before + count_by is_fetch_claim steps)
+
 -- ---- what was kept
 
 -- what a run keeps whose root ends so: where it is ready, its entries; else none
@@ -164,11 +185,13 @@ pub data AtFirst {D : Type 0} (P : D → D → Type 0) : List D → List D → T
 
 -- ---- a run over desks
 
--- How the record of a command on a text comes about. Where nothing is resolved, it is empty, and nothing is kept.
+-- How the record of a command on a text comes about: by a lawful history over the root. Where nothing is resolved, it is empty, nothing
+-- is asked for, and nothing is kept.
 pub data Finds (v : Verb) (text : List ℕ) (o : Outside) (r : Record) : Type 0 where
-  finds : (root : Term) (end : RootEnd) (pairs : List Pair) → IsTrue (does_resolve v) → ParsesTo text (Ok root) → IsFound o r → EndsBy r root end → KeepsBy r root end pairs
+  finds : (root : Term) (end : RootEnd) (pairs : List Pair) (steps : List Event) → IsTrue (does_resolve v) → ParsesTo text (Ok root) → IsHistory root r steps → AsksFor o steps → IsFound o r
+      → EndsBy r root end → KeepsBy r root end pairs
       → (files : FilesAll (first_of 0 o.faults_before) (first_of 0 o.faults_after) o.filed_before o.filed_after pairs) → AreFaults o r pairs files.kept → Finds v text o r
-  leaves : r ≡ nothing_found → o.filed_after ≡ o.filed_before → (does_resolve v ≡ false → o.faults_after ≡ o.faults_before) → Finds v text o r
+  leaves : r ≡ nothing_found → o.filed_after ≡ o.filed_before → o.asked_after ≡ o.asked_before → (does_resolve v ≡ false → o.faults_after ≡ o.faults_before) → Finds v text o r
 
 -- what the first desk has kept where memory is wanting: nothing, or some of what the run keeps
 pub data FilesPart (v : Verb) (text : List ℕ) (o : Outside) : Type 0 where

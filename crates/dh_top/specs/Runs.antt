@@ -3,14 +3,15 @@ use Rattle.std.specs.Prelude.{◌≡◌, ℕ, suc, ◌<◌, ◌⊎◌, List, [],
 use Rattle.std.specs.Io.{StartsWith}
 use Rattle.std.specs.Io.KnownBytes.{Appends, Consumes, Keeps}
 use Rattle.dh_ports.specs.Counts.{Rose}
-use Rattle.dh_syntax.specs.declared.commands.Command.{Command}
-use Rattle.dh_syntax.specs.declared.statuses.Status.{Status}
-use Rattle.dh_syntax.specs.declared.statuses.Status.TheVariants as status
-use Rattle.dh_syntax.specs.Command.Answer.{Response, CommandAnswer, Succeeds, line, unread, without_memory}
-use Rattle.dh_syntax.specs.Command.FaultLines.{read_line, write_line}
-use Rattle.dh_syntax.specs.Imports.Records.{Record}
+use Rattle.dh_command.specs.declared.commands.Command.{Command}
+use Rattle.dh_command.specs.declared.statuses.Status.{Status}
+use Rattle.dh_command.specs.declared.statuses.Status.TheVariants as status
+use Rattle.dh_command.specs.Answer.{CommandAnswer, Succeeds}
+use Rattle.dh_command.specs.Responses.{Response, line, unread, without_memory}
+use Rattle.dh_command.specs.Lines.{read_line, write_line}
+use Rattle.dh_imports.specs.Records.{Record}
 use Rattle.dh_syntax.specs.Limits.{most_bytes}
-use Rattle.dh_syntax.specs.Command.Words.{Word, reads, command_of}
+use Rattle.dh_command.specs.Words.{Word, reads, command_of, operand_words}
 use Rattle.dh_session.specs.Works.{AtLast}
 use Rattle.dh_top.specs.Outside.{Outside, Finds, FilesPart, nothing_found, total}
 
@@ -49,7 +50,7 @@ IsTaken text input =
 
 -- The desks are left alone.
 abbrev pub IsLeftAlone : Outside → Type 0
-IsLeftAlone o = (o.filed_after ≡ o.filed_before) × (o.faults_after ≡ o.faults_before)
+IsLeftAlone o = (o.filed_after ≡ o.filed_before) × (o.faults_after ≡ o.faults_before) × (o.asked_after ≡ o.asked_before)
 
 -- The input is left alone.
 abbrev pub IsLeft : Input → Type 0
@@ -113,7 +114,7 @@ pub record Runs (words : List Word) (input : Input) (o : Outside) (out err : Out
   pub written : Response
   pub makes : Makes words input o found written
   pub delivers : Delivers written out err s
-  pub completes : (c : Command) (text : List ℕ) → command_of words ≡ Ok c → input.before ≡ Some text → Succeeds c.verb text found → Works input out err
+  pub completes : (c : Command) (text : List ℕ) → command_of words ≡ Ok c → input.before ≡ Some text → Succeeds c.verb (operand_words words) text found → Works input out err
       → (s ≡ status.Ok) ⊎ (s ≡ status.Memory)
 
 -- the words are no command line

@@ -3,17 +3,18 @@
 ghost use Rattle.std.specs.Prelude.{◌≡◌, IfOk, Some};
 ghost use Rattle.std.specs.Option.{option_copied};
 ghost use Rattle.dh_import_laws.specs.Blames.{StandsIn};
-ghost use Rattle.dh_syntax.specs.Command.Answer.{FaultAnswer};
-ghost use Rattle.dh_syntax.specs.Command.ImportFaults.{ill_of};
-ghost use Rattle.dh_syntax.specs.Imports.Machine.{outcome_of};
+ghost use Rattle.dh_command.specs.Answer.{FaultAnswer};
+ghost use Rattle.dh_imports.specs.ImportFaults.{ill_of};
+ghost use Rattle.dh_imports.specs.Machine.{outcome_of};
 ghost use Rattle.dh_syntax.specs.declared.faults.Ill.{Ill as IllFault};
 ghost use Rattle.dh_table.specs.States.{record_of, state_of};
 ghost use Rattle.dh_top.specs.Replies.{written};
 
 use crate::faults::{ill_reply, why_reply};
 use crate::replies::Reply;
+use dh_imports::{Blame, Why};
 use dh_ports::World;
-use dh_syntax::{Blame, Ill, TypeFault, Why};
+use dh_syntax::{Ill, TypeFault};
 use dh_table::Table;
 use std::alloc::{AllocError, Global};
 

@@ -1,19 +1,21 @@
 //! The command `decode`: from the binary form to the printed text.
 
-ghost use Rattle.std.specs.Prelude.{◌≡◌, ◌≤◌, length, IfOk, Ok, Err};
-ghost use Rattle.dh_syntax.specs.Command.Answer.{Does, decoded};
+ghost use Rattle.std.specs.Prelude.{◌≡◌, ◌≤◌, List, length, IfOk, Ok, Err};
+ghost use Rattle.dh_command.specs.Answer.{Does, decoded};
+ghost use Rattle.dh_command.specs.Words.{Word};
 ghost use Rattle.dh_syntax.specs.Expressions.Arity.{IsWellFormed};
 ghost use Rattle.dh_syntax.specs.Expressions.Bridge.{term};
 ghost use Rattle.dh_syntax.specs.Expressions.Nesting.{nesting};
 ghost use Rattle.dh_syntax.specs.Limits.{most_bytes};
-ghost use Rattle.dh_syntax.specs.declared.verbs.Verb.TheVariants as verbs;
+ghost use Rattle.dh_command.specs.declared.verbs.Verb.TheVariants as verbs;
 ghost use Rattle.dh_top.specs.Outside.{nothing_found};
 ghost use Rattle.dh_top.specs.Replies.{written};
 
 use crate::replies::{Reply, misspelling};
+use dh_command::Status;
 use dh_decode::decode;
 use dh_print::print;
-use dh_syntax::{DecodeFault, Expr, MOST_BYTES, ParseFault, Status};
+use dh_syntax::{DecodeFault, Expr, MOST_BYTES, ParseFault};
 use std::alloc::{AllocError, Global};
 
 /// The reply to the binary form of this expression.
@@ -38,7 +40,7 @@ fn misreading(alloc: Global, fault: DecodeFault) -> Result<Reply, AllocError>
 /// The reply of `decode` to no more bytes than a text may have.
 fn reading(alloc: Global, bytes: &[u8]) -> Result<Reply, AllocError>
     requires { length bytes.now ≤ most_bytes }
-    ensures { IfOk result (λ r. Does verbs.Decode bytes.now nothing_found (written r)) }
+    ensures { IfOk result (λ r. (ops : List Word) → Does verbs.Decode ops bytes.now nothing_found (written r)) }
 {
     match decode(alloc, bytes) {
         Ok(e) => printed_reply(alloc, &e),
@@ -51,7 +53,7 @@ fn reading(alloc: Global, bytes: &[u8]) -> Result<Reply, AllocError>
 
 /// The reply of `decode` to bytes. More than a text may have are not read.
 pub(crate) fn decoding(alloc: Global, bytes: &[u8]) -> Result<Reply, AllocError>
-    ensures { IfOk result (λ r. Does verbs.Decode bytes.now nothing_found (written r)) }
+    ensures { IfOk result (λ r. (ops : List Word) → Does verbs.Decode ops bytes.now nothing_found (written r)) }
 {
     if bytes.len() > MOST_BYTES {
         return misspelling(alloc, ParseFault::TooLarge);

@@ -4,11 +4,11 @@ ghost use Rattle.std.specs.Prelude.{◌≡◌, ◌<◌, ◌≤◌, ◌+◌, ℕ,
 ghost use Rattle.std.specs.Io.KnownBytes.{Appends, Keeps};
 ghost use Rattle.dh_ports.specs.Counts.{Rose};
 ghost use Rattle.dh_top.specs.Runs.{Gains, Tries, Stops, Delivers, output};
-ghost use Rattle.dh_syntax.specs.Command.Answer.{line};
-ghost use Rattle.dh_syntax.specs.Command.FaultLines.{write_line};
+ghost use Rattle.dh_command.specs.Responses.{line};
+ghost use Rattle.dh_command.specs.Lines.{write_line};
 
+use dh_command::Status;
 use dh_ports::{Sink, WriteError};
-use dh_syntax::Status;
 
 /// Writes some of the bytes from a place on, and answers how many.
 fn write_piece<O: Sink>(sink: &mut O, bytes: &[u8], at: usize) -> Result<usize, WriteError>

@@ -1,11 +1,12 @@
 //! The command `encode`: from a text to the binary form.
 
-ghost use Rattle.std.specs.Prelude.{◌≡◌, ◌≤◌, IfOk, Ok};
-ghost use Rattle.dh_syntax.specs.Command.Answer.{Does, encoded};
+ghost use Rattle.std.specs.Prelude.{◌≡◌, ◌≤◌, List, IfOk, Ok};
+ghost use Rattle.dh_command.specs.Answer.{Does, encoded};
+ghost use Rattle.dh_command.specs.Words.{Word};
 ghost use Rattle.dh_syntax.specs.Expressions.Arity.{IsWellFormed};
 ghost use Rattle.dh_syntax.specs.Expressions.Bridge.{term};
 ghost use Rattle.dh_syntax.specs.Expressions.Nesting.{nesting};
-ghost use Rattle.dh_syntax.specs.declared.verbs.Verb.TheVariants as verbs;
+ghost use Rattle.dh_command.specs.declared.verbs.Verb.TheVariants as verbs;
 ghost use Rattle.dh_top.specs.Outside.{nothing_found};
 ghost use Rattle.dh_top.specs.Replies.{written};
 
@@ -27,7 +28,7 @@ fn encoded_reply(alloc: Global, e: &Expr) -> Result<Reply, AllocError>
 
 /// The reply of `encode` to a text.
 pub(crate) fn encoding(alloc: Global, text: &[u8]) -> Result<Reply, AllocError>
-    ensures { IfOk result (λ r. Does verbs.Encode text.now nothing_found (written r)) }
+    ensures { IfOk result (λ r. (ops : List Word) → Does verbs.Encode ops text.now nothing_found (written r)) }
 {
     match parse(alloc, text) {
         Ok(e) => encoded_reply(alloc, &e),

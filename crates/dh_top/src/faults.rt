@@ -1,16 +1,19 @@
 //! Replies that tell a fault in one line: of an item, and of a place without a type in a text.
 
 ghost use Rattle.std.specs.Prelude.{◌≡◌, IfOk, Ok, Option, option_copied};
-ghost use Rattle.dh_syntax.specs.Command.Answer.{fault as fault_of};
-ghost use Rattle.dh_syntax.specs.Command.ImportFaults.{in_item as in_item_of, why_line, why_status as status_of};
+ghost use Rattle.dh_command.specs.Responses.{fault as fault_of};
+ghost use Rattle.dh_imports.specs.ImportFaults.{in_item as in_item_of, why_line};
+ghost use Rattle.dh_command.specs.Statuses.{why_status as status_of};
 ghost use Rattle.dh_syntax.specs.Expressions.Tree.{Term};
 ghost use Rattle.dh_syntax.specs.Text.Spelling.{ParsesTo};
 ghost use Rattle.dh_top.specs.Replies.{written, TellsPlace};
 
 use crate::replies::Reply;
+use dh_command::Status;
 use dh_faults::{Placed, in_item, place_of, why_status, why_text};
+use dh_imports::Why;
 use dh_parse::parse_spans;
-use dh_syntax::{Ill, Key, ParseFault, Status, Why};
+use dh_syntax::{Ill, Key, ParseFault};
 use std::alloc::{AllocError, Global};
 
 /// The reply that tells a fault of an item in one line.

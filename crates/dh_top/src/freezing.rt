@@ -1,10 +1,10 @@
 //! The command `freeze`: the text of the input with the digest of its value behind each import that has none.
 
 ghost use Rattle.std.specs.Prelude.{◌≡◌, ℕ, List, IfOk, Ok};
-ghost use Rattle.dh_syntax.specs.Command.Answer.{answer as answer_of};
-ghost use Rattle.dh_syntax.specs.Command.FrozenTexts.{IsFrozenText};
+ghost use Rattle.dh_command.specs.Responses.{answer as answer_of};
+ghost use Rattle.dh_imports.specs.FrozenTexts.{IsFrozenText};
 ghost use Rattle.dh_syntax.specs.Expressions.Tree.{Term};
-ghost use Rattle.dh_syntax.specs.Imports.Machine.{outcome_of};
+ghost use Rattle.dh_imports.specs.Machine.{outcome_of};
 ghost use Rattle.dh_syntax.specs.Text.Offsets.{SpellsWith};
 ghost use Rattle.dh_syntax.specs.Text.Spelling.{ParsesTo};
 ghost use Rattle.dh_table.specs.States.{state_of};

@@ -14,6 +14,7 @@ fn keep_entry<W: World, D: Desk<W>>(desk: &mut D, entry: &CacheEntry) -> Result<
     ensures kept { OnOk result (FilesAll (D.faults desk.old) (D.faults desk.new) (D.filed desk.old) (D.filed desk.new) (pair_of entry.now ∷ [])) }
     ensures not_kept { OnErr result (D.filed desk.new ≡ D.filed desk.old) }
     ensures counted { D.faults desk.old ≤ D.faults desk.new }
+    ensures asked { D.asked desk.new ≡ D.asked desk.old }
 {
     match desk.keep(&entry.digest, entry.bytes.as_slice()) {
         Ok(()) => Ok(()),
@@ -28,6 +29,7 @@ fn keep_all<W: World, D: Desk<W>>(desk: &mut D, entries: &[CacheEntry]) -> Resul
     ensures kept { OnOk result (FilesAll (D.faults desk.old) (D.faults desk.new) (D.filed desk.old) (D.filed desk.new) (map pair_of entries.now)) }
     ensures part { OnErr result ((kept : List Pair) × FilesSome (D.filed desk.old) (D.filed desk.new) (map pair_of entries.now) kept) }
     ensures counted { D.faults desk.old ≤ D.faults desk.new }
+    ensures asked { D.asked desk.new ≡ D.asked desk.old }
 {
     let mut left = entries;
     while let Some((entry, rest)) = left.split_first() {
@@ -46,6 +48,7 @@ pub(crate) fn keep_at_first<W: World, D: Desk<W>>(
     requires small { All (λ e. length e.bytes ≤ most_entry_bytes) entries.now }
     ensures kept { OnOk result (AtFirst (λ d e. (D.faults d ≤ D.faults e) × FilesAll (D.faults d) (D.faults e) (D.filed d) (D.filed e) (map pair_of entries.now)) desks.old desks.new) }
     ensures part { OnErr result (AtFirst (λ d e. (D.faults d ≤ D.faults e) × ((kept : List Pair) × FilesSome (D.filed d) (D.filed e) (map pair_of entries.now) kept)) desks.old desks.new) }
+    ensures asked { map (λ d. D.asked d) desks.new ≡ map (λ d. D.asked d) desks.old }
 {
     keep_all::<W, D>(&mut desks[0], entries)
 }

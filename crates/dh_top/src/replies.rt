@@ -1,8 +1,8 @@
 //! What a run replies to its words and its input.
 
 ghost use Rattle.std.specs.Prelude.{◌≡◌, ◌<◌, [], IfOk, OnErr, map, string_bytes, vec_len};
-ghost use Rattle.dh_syntax.specs.Command.Answer.{misused, unread, answer as answer_of, misspelt};
-ghost use Rattle.dh_syntax.specs.Command.Words.{command_of};
+ghost use Rattle.dh_command.specs.Responses.{misused, unread, answer as answer_of, misspelt};
+ghost use Rattle.dh_command.specs.Words.{AreFit, command_of};
 ghost use Rattle.dh_top.specs.Outside.{outside, desks_for, desks_of, FilesPart, UsesFirst};
 ghost use Rattle.dh_top.specs.Replies.{written, Answers, IsMade, Lacks, Performs};
 ghost use Rattle.dh_top.specs.Runs.{LacksMemory, reading};
@@ -11,10 +11,12 @@ use crate::decoding::decoding;
 use crate::encoding::encoding;
 use crate::inputs::{InputFault, read_input};
 use crate::resolving::resolving;
+use crate::steps::stepping;
 use crate::telling::{help, version};
-use crate::words::read_words;
+use crate::words::{operands_of, read_words};
+use dh_command::{Command, Status, Verb};
 use dh_ports::{Desk, Feed, Gate, World};
-use dh_syntax::{Command, ParseFault, Status, Verb};
+use dh_syntax::ParseFault;
 use std::alloc::{AllocError, Global};
 use std::sync::Wait;
 use std::thread::Threads;
@@ -85,22 +87,25 @@ fn answer<
     rt: &R,
     alloc: Global,
     command: Command,
+    operands: &[String],
     input: &[u8],
     desks: &mut Vec<D>,
     gate: &G,
 ) -> Result<Reply, AllocError>
     requires some { 0 < vec_len desks.old }
+    requires fit { AreFit command.verb (map string_bytes operands.now) }
     ensures count { vec_len desks.new ≡ vec_len desks.old }
     ensures desks { UsesFirst (λ d. D.filed d) (desks_of command (vec_len desks.old)) desks.old.items desks.new.items }
-    ensures answers { IfOk result (λ w. Answers command.verb input.now (outside W.told W.shelved (λ d. D.faults d) (λ d. D.filed d) desks.old.items desks.new.items) (written w)) }
-    ensures lacks { OnErr result (FilesPart command.verb input.now (outside W.told W.shelved (λ d. D.faults d) (λ d. D.filed d) desks.old.items desks.new.items)) }
+    ensures answers { IfOk result (λ w. Answers command.verb (map string_bytes operands.now) input.now (outside W.told W.shelved (λ d. D.asked d) (λ d. D.faults d) (λ d. D.filed d) desks.old.items desks.new.items) (written w)) }
+    ensures lacks { OnErr result (FilesPart command.verb input.now (outside W.told W.shelved (λ d. D.asked d) (λ d. D.faults d) (λ d. D.filed d) desks.old.items desks.new.items)) }
 {
     match command.verb {
         Verb::Encode => encoding(alloc, input),
         Verb::Decode => decoding(alloc, input),
-        Verb::Resolve | Verb::Type | Verb::Normalize | Verb::Hash | Verb::Freeze => {
+        Verb::Resolve | Verb::Type | Verb::Normalize | Verb::Hash | Verb::ToJson | Verb::Freeze => {
             resolving::<R, W, D, G>(rt, alloc, command, input, desks, gate)
         }
+        Verb::Steps => stepping(alloc, operands, input),
         Verb::Help => help(alloc),
         Verb::Version => version(alloc),
     }
@@ -117,25 +122,27 @@ fn perform<
     rt: &R,
     alloc: Global,
     command: Command,
+    operands: &[String],
     desks: &mut Vec<D>,
     input: &mut I,
     gate: &G,
 ) -> Result<Reply, AllocError>
     requires some { 0 < vec_len desks.old }
+    requires fit { AreFit command.verb (map string_bytes operands.now) }
     ensures count { vec_len desks.new ≡ vec_len desks.old }
     ensures desks { UsesFirst (λ d. D.filed d) (desks_of command (vec_len desks.old)) desks.old.items desks.new.items }
-    ensures performs { IfOk result (λ w. Performs command
+    ensures performs { IfOk result (λ w. Performs command (map string_bytes operands.now)
         (reading (I.left input.old) (I.left input.new) (I.faults input.old) (I.faults input.new))
-        (outside W.told W.shelved (λ d. D.faults d) (λ d. D.filed d) desks.old.items desks.new.items) (written w)) }
+        (outside W.told W.shelved (λ d. D.asked d) (λ d. D.faults d) (λ d. D.filed d) desks.old.items desks.new.items) (written w)) }
     ensures lacks { OnErr result (Lacks command
         (reading (I.left input.old) (I.left input.new) (I.faults input.old) (I.faults input.new))
-        (outside W.told W.shelved (λ d. D.faults d) (λ d. D.filed d) desks.old.items desks.new.items)) }
+        (outside W.told W.shelved (λ d. D.asked d) (λ d. D.faults d) (λ d. D.filed d) desks.old.items desks.new.items)) }
 {
     if !command.verb.reads() {
-        return answer::<R, W, D, G>(rt, alloc, command, &[], desks, gate);
+        return answer::<R, W, D, G>(rt, alloc, command, operands, &[], desks, gate);
     }
     match read_input(alloc, input) {
-        Ok(bytes) => answer::<R, W, D, G>(rt, alloc, command, &bytes, desks, gate),
+        Ok(bytes) => { answer::<R, W, D, G>(rt, alloc, command, operands, &bytes, desks, gate) }
         Err(InputFault::Failed) => unreadable(alloc),
         Err(InputFault::Memory) => Err(AllocError),
     }
@@ -161,13 +168,16 @@ pub(crate) fn reply_to<
     ensures desks { UsesFirst (λ d. D.filed d) (desks_for (command_of (map string_bytes words.now)) (vec_len desks.old)) desks.old.items desks.new.items }
     ensures made { IfOk result (λ w. IsMade (map string_bytes words.now)
         (reading (I.left input.old) (I.left input.new) (I.faults input.old) (I.faults input.new))
-        (outside W.told W.shelved (λ d. D.faults d) (λ d. D.filed d) desks.old.items desks.new.items) (written w)) }
+        (outside W.told W.shelved (λ d. D.asked d) (λ d. D.faults d) (λ d. D.filed d) desks.old.items desks.new.items) (written w)) }
     ensures lacks { OnErr result (LacksMemory (map string_bytes words.now)
         (reading (I.left input.old) (I.left input.new) (I.faults input.old) (I.faults input.new))
-        (outside W.told W.shelved (λ d. D.faults d) (λ d. D.filed d) desks.old.items desks.new.items)) }
+        (outside W.told W.shelved (λ d. D.asked d) (λ d. D.faults d) (λ d. D.filed d) desks.old.items desks.new.items)) }
 {
     match read_words(words) {
-        Ok(command) => perform::<R, W, D, I, G>(rt, alloc, command, desks, input, gate),
+        Ok(command) => {
+            let operands = operands_of(words);
+            perform::<R, W, D, I, G>(rt, alloc, command, operands, desks, input, gate)
+        }
         Err(k) => misuse(alloc, k),
     }
 }

@@ -1,15 +1,15 @@
 //! The commands that resolve imports: from a text to the expression with a value for each import.
 
 ghost use Rattle.std.specs.Prelude.{◌≡◌, ◌≤◌, ◌<◌, ◌^◌, IsTrue, IfOk, OnOk, OnErr, Ok, List, length, map, max, min, vec_len};
-ghost use Rattle.dh_syntax.specs.Command.Answer.{ResolvedAnswer, ValuedAnswer};
-ghost use Rattle.dh_syntax.specs.Command.Words.{resolves as resolves_imports};
+ghost use Rattle.dh_command.specs.Answer.{ResolvedAnswer, ValuedAnswer};
+ghost use Rattle.dh_command.specs.Words.{Word, resolves as resolves_imports};
 ghost use Rattle.dh_syntax.specs.Expressions.Arity.{IsWellFormed};
 ghost use Rattle.dh_syntax.specs.Expressions.Bridge.{term};
 ghost use Rattle.dh_syntax.specs.Expressions.Nesting.{nesting};
 ghost use Rattle.dh_syntax.specs.Expressions.Spellable.{IsSpellable};
-ghost use Rattle.dh_syntax.specs.Imports.Machine.{outcome_of};
-ghost use Rattle.dh_syntax.specs.Imports.Readings.{root_reading};
-ghost use Rattle.dh_syntax.specs.Imports.Replay.{root_end};
+ghost use Rattle.dh_imports.specs.Machine.{outcome_of};
+ghost use Rattle.dh_imports.specs.Readings.{root_reading};
+ghost use Rattle.dh_imports.specs.Replay.{root_end};
 ghost use Rattle.dh_syntax.specs.Names.Indices.{IndicesBelow};
 ghost use Rattle.dh_syntax.specs.Text.Spelling.{ParsesTo};
 ghost use Rattle.dh_table.specs.Kept.{IsKeeping, pair_of};
@@ -23,10 +23,12 @@ use crate::freezing::freezing;
 use crate::keeping::keep_at_first;
 use crate::replies::{Reply, misspelling};
 use crate::typing::{printed_line, typing};
+use dh_command::{Command, Verb};
+use dh_imports::Why;
 use dh_parse::parse;
 use dh_ports::{Desk, Gate, World};
 use dh_session::{Answered, SessionFault, resolve_all};
-use dh_syntax::{Command, Expr, ParseFault, Verb, Why};
+use dh_syntax::{Expr, ParseFault};
 use dh_table::{Ended, Table};
 use std::alloc::{AllocError, Global};
 use std::sync::Wait;
@@ -91,6 +93,7 @@ fn answered_reply<W: World, D: Desk<W>>(
     requires keeps { IsKeeping (state_of answered.now.table) (root_end (state_of answered.now.table)) (map pair_of answered.now.keeps) }
     ensures kept { OnOk result (AtFirst (λ d e. (D.faults d ≤ D.faults e) × FilesAll (D.faults d) (D.faults e) (D.filed d) (D.filed e) (map pair_of answered.now.keeps)) desks.old desks.new) }
     ensures part { OnErr result (AtFirst (λ d e. (D.faults d ≤ D.faults e) × ((kept : List Pair) × FilesSome (D.filed d) (D.filed e) (map pair_of answered.now.keeps) kept)) desks.old desks.new) }
+    ensures asked { map (λ d. D.asked d) desks.new ≡ map (λ d. D.asked d) desks.old }
     ensures does { IfOk result (λ w. ResolvedAnswer verb text.now (state_of answered.now.table).root (record_of answered.now.table) (written w)) }
 {
     keep_at_first::<W, D>(desks, answered.keeps.as_slice())?;
@@ -132,8 +135,8 @@ fn spelled_reply<
     requires spellable { IsSpellable (term e) }
     ensures count { vec_len desks.new ≡ vec_len desks.old }
     ensures desks { UsesFirst (λ d. D.filed d) (desks_of command (vec_len desks.old)) desks.old.items desks.new.items }
-    ensures answers { IfOk result (λ w. Answers command.verb text.now (outside W.told W.shelved (λ d. D.faults d) (λ d. D.filed d) desks.old.items desks.new.items) (written w)) }
-    ensures lacks { OnErr result (FilesPart command.verb text.now (outside W.told W.shelved (λ d. D.faults d) (λ d. D.filed d) desks.old.items desks.new.items)) }
+    ensures answers { IfOk result (λ w. (ops : List Word) → Answers command.verb ops text.now (outside W.told W.shelved (λ d. D.asked d) (λ d. D.faults d) (λ d. D.filed d) desks.old.items desks.new.items) (written w)) }
+    ensures lacks { OnErr result (FilesPart command.verb text.now (outside W.told W.shelved (λ d. D.asked d) (λ d. D.faults d) (λ d. D.filed d) desks.old.items desks.new.items)) }
 {
     let workers = workers_for(command.workers, desks.len());
     match resolve_all::<R, W, D, G>(rt, alloc, desks, workers, e, gate) {
@@ -165,8 +168,8 @@ pub(crate) fn resolving<
     requires resolves { IsTrue (resolves_imports command.verb) }
     ensures count { vec_len desks.new ≡ vec_len desks.old }
     ensures desks { UsesFirst (λ d. D.filed d) (desks_of command (vec_len desks.old)) desks.old.items desks.new.items }
-    ensures answers { IfOk result (λ w. Answers command.verb text.now (outside W.told W.shelved (λ d. D.faults d) (λ d. D.filed d) desks.old.items desks.new.items) (written w)) }
-    ensures lacks { OnErr result (FilesPart command.verb text.now (outside W.told W.shelved (λ d. D.faults d) (λ d. D.filed d) desks.old.items desks.new.items)) }
+    ensures answers { IfOk result (λ w. (ops : List Word) → Answers command.verb ops text.now (outside W.told W.shelved (λ d. D.asked d) (λ d. D.faults d) (λ d. D.filed d) desks.old.items desks.new.items) (written w)) }
+    ensures lacks { OnErr result (FilesPart command.verb text.now (outside W.told W.shelved (λ d. D.asked d) (λ d. D.faults d) (λ d. D.filed d) desks.old.items desks.new.items)) }
 {
     match parse(alloc, text) {
         Ok(e) => spelled_reply::<R, W, D, G>(rt, alloc, command, text, e, desks, gate),

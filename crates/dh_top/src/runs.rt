@@ -1,15 +1,16 @@
 //! One run of the command: its words, its input, its answer, and the delivery of it.
 
-ghost use Rattle.std.specs.Prelude.{◌≡◌, ◌<◌, ◌⊎◌, map, string_bytes, vec_len};
+ghost use Rattle.std.specs.Prelude.{◌≡◌, ◌<◌, ◌⊎◌, IsTrue, map, string_bytes, vec_len};
 ghost use Rattle.dh_ports.specs.Counts.{Rose};
-ghost use Rattle.dh_syntax.specs.Command.Words.{command_of};
+ghost use Rattle.dh_command.specs.Words.{command_of};
+ghost use Rattle.dh_top.specs.Causes.{IsCaused, TellsOneLine, has_cause, is_refusal};
 ghost use Rattle.dh_top.specs.Outside.{outside, desks_for, UsesFirst};
 ghost use Rattle.dh_top.specs.Runs.{Runs, AreMisused, DeskFailed, ReadFailed, reading, output};
 
 use crate::delivery::deliver;
 use crate::replies::reply_to;
+use dh_command::Status;
 use dh_ports::{Desk, Feed, Gate, Sink, World};
-use dh_syntax::Status;
 use std::alloc::Global;
 use std::sync::Wait;
 use std::thread::Threads;
@@ -41,7 +42,7 @@ pub fn run_dhall<
     // it; and an input that the command answers over that succeeds where the streams work, unless memory is wanting.
     ensures runs { Runs (map string_bytes words.now)
         (reading (I.left input.old) (I.left input.new) (I.faults input.old) (I.faults input.new))
-        (outside W.told W.shelved (λ d. D.faults d) (λ d. D.filed d) desks.old.items desks.new.items)
+        (outside W.told W.shelved (λ d. D.asked d) (λ d. D.faults d) (λ d. D.filed d) desks.old.items desks.new.items)
         (output (O.written out.old) (O.written out.new) (O.faults out.old) (O.faults out.new))
         (output (E.written err.old) (E.written err.new) (E.faults err.old) (E.faults err.new)) result }
 
@@ -49,6 +50,18 @@ pub fn run_dhall<
     // and only the first one keeps anything.
     ensures count { vec_len desks.new ≡ vec_len desks.old }
     ensures desks { UsesFirst (λ d. D.filed d) (desks_for (command_of (map string_bytes words.now)) (vec_len desks.old)) desks.old.items desks.new.items }
+
+    // Where the status is that of a fault of the input, of an item that it imports, or of a limit, that is so by the text that was read
+    // and by what was found.
+    ensures cause { IsTrue (has_cause result) → IsCaused (map string_bytes words.now)
+        (reading (I.left input.old) (I.left input.new) (I.faults input.old) (I.faults input.new))
+        (outside W.told W.shelved (λ d. D.asked d) (λ d. D.faults d) (λ d. D.filed d) desks.old.items desks.new.items) result }
+
+    // With each status but `Ok` and `Write`, also where memory is wanting, standard output is as it was, and standard error has one
+    // line more.
+    ensures one_line { IsTrue (is_refusal result) → TellsOneLine
+        (output (O.written out.old) (O.written out.new) (O.faults out.old) (O.faults out.new))
+        (output (E.written err.old) (E.written err.new) (E.faults err.old) (E.faults err.new)) }
 
     // Words that are no command line are the one cause of `Usage`, and are answered so unless the line cannot be
     // written or memory is wanting.
@@ -61,7 +74,7 @@ pub fn run_dhall<
         (output (O.written out.old) (O.written out.new) (O.faults out.old) (O.faults out.new))
         (output (E.written err.old) (E.written err.new) (E.faults err.old) (E.faults err.new)) }
     ensures write_only { result ≡ Status.Write → Rose (O.faults out.old) (O.faults out.new) ⊎ Rose (E.faults err.old) (E.faults err.new) }
-    ensures desk_only { result ≡ Status.Desk → DeskFailed (outside W.told W.shelved (λ d. D.faults d) (λ d. D.filed d) desks.old.items desks.new.items) }
+    ensures desk_only { result ≡ Status.Desk → DeskFailed (outside W.told W.shelved (λ d. D.asked d) (λ d. D.faults d) (λ d. D.filed d) desks.old.items desks.new.items) }
 
     // A failed call of a device that is counted is told: of a write by `Write`, of a read by `Read` unless that line
     // cannot be written or memory is wanting.

@@ -1,8 +1,8 @@
 //! What the program tells of itself: the page of help, and its version.
 
 ghost use Rattle.std.specs.Prelude.{◌≡◌, IfOk};
-ghost use Rattle.dh_syntax.specs.Command.Answer.{answer as answer_of};
-ghost use Rattle.dh_syntax.specs.Command.Telling.{help_text, version_text};
+ghost use Rattle.dh_command.specs.Responses.{answer as answer_of};
+ghost use Rattle.dh_command.specs.Telling.{help_text, version_text};
 ghost use Rattle.dh_top.specs.Replies.{written};
 
 use crate::replies::Reply;
@@ -21,7 +21,9 @@ pub(crate) fn help(alloc: Global) -> Result<Reply, AllocError>
          type: prints its type\n\
          normalize: prints its normal form\n\
          hash: prints the digest of its normal form\n\
+         to-json: prints the JSON text of its normal form\n\
          freeze: writes the input with a digest behind each import that has none\n\
+         steps PLACE..: prints the expression after one step at each place, and whether it is normal\n\
          help, --help, -h: prints this page\n\
          --version: prints the version of the program and of the standard\n\
          status 0: the answer was written\n\
@@ -33,7 +35,9 @@ pub(crate) fn help(alloc: Global) -> Result<Reply, AllocError>
          status 6: the input could not be read\n\
          status 7: an output could not be written\n\
          status 8: an import could not be read\n\
-         status 9: memory was wanting\n",
+         status 9: memory was wanting\n\
+         status 10: the normal form has no JSON value\n\
+         status 11: a step cannot be made\n",
     )?;
     Ok(Reply::answer(alloc, text.into_bytes()))
 }

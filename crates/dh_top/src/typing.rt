@@ -1,16 +1,17 @@
-//! The commands that infer a type: from an expression with its values to the printed type, the printed normal form, or the digest of
-//! the normal form.
+//! The commands that infer a type: from an expression with its values to the printed type, the printed normal form, or the JSON text
+//! or the digest of the normal form.
 
 ghost use Rattle.std.specs.Prelude.{◌≡◌, ◌≢◌, ◌≤◌, ◌<◌, ◌+◌, ◌^◌, ℕ, List, [], IsTrue, IfOk, IfErr, Ok};
-ghost use Rattle.dh_syntax.specs.Command.Answer.{IsTyped, TypedAnswer, answer, digest_line, fault as fault_of, line};
-ghost use Rattle.dh_syntax.specs.Command.FaultLines.{norm_fault_line};
-ghost use Rattle.dh_syntax.specs.Command.Words.{types};
+ghost use Rattle.dh_command.specs.Answer.{IsTyped, TypedAnswer, digest_line};
+ghost use Rattle.dh_command.specs.Responses.{answer, fault as fault_of, line};
+ghost use Rattle.dh_syntax.specs.FaultLines.{norm_fault_line};
+ghost use Rattle.dh_command.specs.Words.{types};
 ghost use Rattle.dh_syntax.specs.Expressions.Arity.{IsWellFormed};
 ghost use Rattle.dh_syntax.specs.Expressions.Bridge.{term};
 ghost use Rattle.dh_syntax.specs.Expressions.Nesting.{nesting};
 ghost use Rattle.dh_syntax.specs.Expressions.Tree.{Term};
-ghost use Rattle.dh_syntax.specs.Imports.Machine.{outcome_of};
-ghost use Rattle.dh_syntax.specs.Imports.Readings.{Reading, root_reading};
+ghost use Rattle.dh_imports.specs.Machine.{outcome_of};
+ghost use Rattle.dh_imports.specs.Readings.{Reading, root_reading};
 ghost use Rattle.dh_syntax.specs.Limits.{most_nesting, whole_purse};
 ghost use Rattle.dh_syntax.specs.Names.Indices.{IndicesBelow};
 ghost use Rattle.dh_syntax.specs.Normalising.Named.{names};
@@ -19,19 +20,21 @@ ghost use Rattle.dh_syntax.specs.Text.Printed.{text_of};
 ghost use Rattle.dh_syntax.specs.Text.Spelling.{ParsesTo};
 ghost use Rattle.dh_syntax.specs.Typing.NamedTyping.{IsIll};
 ghost use Rattle.dh_syntax.specs.declared.faults.NormFault.TheVariants as limits;
-ghost use Rattle.dh_syntax.specs.declared.statuses.Status.TheVariants as statuses;
-ghost use Rattle.dh_syntax.specs.declared.verbs.Verb.TheVariants as verbs;
+ghost use Rattle.dh_command.specs.declared.statuses.Status.TheVariants as statuses;
+ghost use Rattle.dh_command.specs.declared.verbs.Verb.TheVariants as verbs;
 ghost use Rattle.dh_table.specs.States.{state_of};
 ghost use Rattle.dh_top.specs.Replies.{written};
 
 use crate::faults::ill_reply;
+use crate::json::json_value_reply;
 use crate::replies::Reply;
+use dh_command::{Status, Verb};
 use dh_digest::{digest, digest_text};
 use dh_infer::infer;
 use dh_norm::normal_form;
 use dh_ports::World;
 use dh_print::print;
-use dh_syntax::{Digest, Expr, Ill, NormFault, Purse, Status, TypeFault, Verb, WHOLE_PURSE};
+use dh_syntax::{Digest, Expr, Ill, NormFault, Purse, TypeFault, WHOLE_PURSE};
 use dh_table::Table;
 use std::alloc::{AllocError, Global};
 
@@ -116,6 +119,20 @@ fn hash_reply(alloc: Global, e: &Expr) -> Result<Reply, AllocError>
     }
 }
 
+/// The reply of `to-json` to an expression that has a type.
+fn json_reply(alloc: Global, e: &Expr) -> Result<Reply, AllocError>
+    requires formed { IsWellFormed (term e.now) }
+    requires shallow { nesting (term e.now) < 2 ^ 32 }
+    requires indices { IndicesBelow (2 ^ 31) (term e.now) }
+    requires typed { (t : Term) × IsTyped (term e.now) t }
+    ensures { IfOk result (λ r. (i : Reading) → TypedAnswer verbs.ToJson i (term e.now) (written r)) }
+{
+    match whole_form(alloc, e) {
+        Ok(form) => json_value_reply(alloc, &form),
+        Err(fault) => limited(alloc, fault),
+    }
+}
+
 /// The reply to an expression of this type.
 fn typed_reply(alloc: Global, verb: Verb, e: &Expr, typed: &Expr) -> Result<Reply, AllocError>
     requires types { IsTrue (types verb) }
@@ -131,8 +148,9 @@ fn typed_reply(alloc: Global, verb: Verb, e: &Expr, typed: &Expr) -> Result<Repl
         Verb::Type => printed_line(alloc, typed),
         Verb::Normalize => normal_reply(alloc, e),
         Verb::Hash => hash_reply(alloc, e),
-        Verb::Encode | Verb::Decode => unreachable!(),
-        Verb::Resolve | Verb::Freeze | Verb::Help | Verb::Version => unreachable!(),
+        Verb::ToJson => json_reply(alloc, e),
+        Verb::Encode | Verb::Decode | Verb::Resolve | Verb::Freeze => unreachable!(),
+        Verb::Steps | Verb::Help | Verb::Version => unreachable!(),
     }
 }
 

@@ -1,12 +1,14 @@
 //! The words of the command line.
 
-ghost use Rattle.std.specs.Prelude.{◌≡◌, Ok, Err, map, string_bytes, codes, MatchResult};
+ghost use Rattle.std.specs.Prelude.{◌≡◌, ◌≤◌, Ok, Err, map, string_bytes, codes, MatchResult};
 ghost use Rattle.std.specs.Char.{is_ascii_digit};
 ghost use Rattle.std.specs.List.{list_all};
 ghost use Rattle.dh_syntax.specs.Expressions.Numbers.{bytes_eq};
-ghost use Rattle.dh_syntax.specs.Command.Words.{verb_of, is_count, workers_of, operands, counted, options, command_of};
+ghost use Rattle.dh_command.specs.Words.{verb_of, is_count, workers_of, operands, counted, options, command_of, behind_workers, operand_words};
 
-use dh_syntax::{Command, DEFAULT_WORKERS, MOST_WORKERS, Verb};
+use dh_command::{Command, Verb};
+use dh_steps::check_places;
+use dh_syntax::{DEFAULT_WORKERS, MOST_WORKERS};
 
 /// The command that a word names.
 fn verb_named(word: &str) -> Option<Verb>
@@ -24,8 +26,12 @@ fn verb_named(word: &str) -> Option<Verb>
         Some(Verb::Normalize)
     } else if word == "hash" {
         Some(Verb::Hash)
+    } else if word == "to-json" {
+        Some(Verb::ToJson)
     } else if word == "freeze" {
         Some(Verb::Freeze)
+    } else if word == "steps" {
+        Some(Verb::Steps)
     } else if word == "help" {
         Some(Verb::Help)
     } else if word == "--help" {
@@ -78,16 +84,16 @@ fn workers_of(word: &str) -> Option<u32>
     }
 }
 
-/// A command whose operands begin at the word of this number. No command has any.
-fn without_operands(verb: Verb, workers: u32, at: u32, rest: &[String]) -> Result<Command, u32>
+/// A command with its operands, which begin at the word of this number.
+fn with_operands(verb: Verb, workers: u32, at: u32, rest: &[String]) -> Result<Command, u32>
+    requires { at ≤ 4 }
     ensures { MatchResult result
         (λ c. operands verb workers at (map string_bytes rest.now) ≡ Ok c)
         (λ k. operands verb workers at (map string_bytes rest.now) ≡ Err k) }
 {
-    if rest.is_empty() {
-        Ok(Command { verb, workers })
-    } else {
-        Err(at)
+    match check_places(verb.most_operands(), at, rest) {
+        Ok(()) => Ok(Command { verb, workers }),
+        Err(k) => Err(k),
     }
 }
 
@@ -103,7 +109,7 @@ fn read_workers(verb: Verb, rest: &[String]) -> Result<Command, u32>
     let Some(workers) = workers_of(word.as_str()) else {
         return Err(3);
     };
-    without_operands(verb, workers, 4, rest)
+    with_operands(verb, workers, 4, rest)
 }
 
 /// What stands behind the name of a command.
@@ -113,12 +119,12 @@ fn read_options(verb: Verb, rest: &[String]) -> Result<Command, u32>
         (λ k. options verb (map string_bytes rest.now) ≡ Err k) }
 {
     let Some((word, more)) = rest.split_first() else {
-        return without_operands(verb, DEFAULT_WORKERS, 2, rest);
+        return with_operands(verb, DEFAULT_WORKERS, 2, rest);
     };
     if is_workers(word.as_str()) {
         read_workers(verb, more)
     } else {
-        without_operands(verb, DEFAULT_WORKERS, 2, rest)
+        with_operands(verb, DEFAULT_WORKERS, 2, rest)
     }
 }
 
@@ -136,4 +142,27 @@ pub fn read_words(words: &[String]) -> Result<Command, u32>
         return Err(1);
     };
     read_options(verb, rest)
+}
+
+/// The words behind `--workers` and its number, where these stand first.
+fn behind_workers(rest: &[String]) -> &[String]
+    ensures { map string_bytes result.now ≡ behind_workers (map string_bytes rest.now) }
+{
+    match rest.split_first() {
+        Some((word, more)) if is_workers(word.as_str()) => match more.split_first() {
+            Some((_, operands)) => operands,
+            None => more,
+        },
+        _ => rest,
+    }
+}
+
+/// The operands of a command line.
+pub(crate) fn operands_of(words: &[String]) -> &[String]
+    ensures { map string_bytes result.now ≡ operand_words (map string_bytes words.now) }
+{
+    match words.split_first() {
+        Some((_, rest)) => behind_workers(rest),
+        None => words,
+    }
 }

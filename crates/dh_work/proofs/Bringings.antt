@@ -13,9 +13,9 @@ use Rattle.dh_syntax.specs.Bytes.BinaryFaults.{DecodesTo}
 use Rattle.dh_syntax.specs.Bytes.BinaryRead.{Reads}
 use Rattle.dh_syntax.specs.Expressions.Bridge.{term}
 use Rattle.dh_syntax.specs.Expressions.Tree.{Term}
-use Rattle.dh_syntax.specs.Imports.Records as found
-use Rattle.dh_syntax.specs.Imports.Records.{IsClosed, IsGood}
-use Rattle.dh_syntax.specs.Imports.Walk.{keys_of}
+use Rattle.dh_imports.specs.Records as found
+use Rattle.dh_imports.specs.Records.{IsClosed, IsGood}
+use Rattle.dh_imports.specs.Walk.{keys_of}
 use Rattle.dh_syntax.proofs.BinaryFaultLaws.{decodes-unique}
 use Rattle.dh_syntax.proofs.BinaryReadLaws.{reads-unique}
 use Rattle.dh_ports.specs.Counts.{Rose}

@@ -10,7 +10,7 @@ use Rattle.dh_syntax.specs.declared.operators.Builtin.TheVariants as builtins
 use Rattle.dh_syntax.specs.Expressions.Bridge.{term, row_of}
 use Rattle.dh_syntax.specs.Expressions.Forms as form
 use Rattle.dh_syntax.specs.Expressions.Tree.{Row, Node, end, kid, Name, Var, Term}
-use Rattle.dh_syntax.specs.Imports.LastStep as last
+use Rattle.dh_imports.specs.LastStep as last
 use Rattle.dh_syntax.proofs.Bridge.{row_of-nil, term-Node}
 use Rattle.dh_syntax.proofs.Rows.{row_of-one, row_of-two, row_of-three}
 

@@ -20,25 +20,26 @@ use Rattle.dh_syntax.specs.declared.locations.Digest.{Digest}
 use Rattle.dh_syntax.specs.declared.locations.Key.{Key}
 use Rattle.dh_syntax.specs.declared.locations.Loc.{Loc}
 use Rattle.dh_syntax.specs.declared.locations.Loc.TheVariants as locs
-use Rattle.dh_syntax.specs.declared.outcomes.Blame.{Blame}
-use Rattle.dh_syntax.specs.declared.outcomes.Origin.{Origin}
-use Rattle.dh_syntax.specs.declared.outcomes.Origin.TheVariants as origins
-use Rattle.dh_syntax.specs.declared.outcomes.Outcome.{Outcome}
-use Rattle.dh_syntax.specs.declared.outcomes.Outcome.TheVariants as outcomes
-use Rattle.dh_syntax.specs.declared.outcomes.Why.{Why}
-use Rattle.dh_syntax.specs.declared.outcomes.Why.TheVariants as whys
+use Rattle.dh_imports.specs.declared.outcomes.Blame.{Blame}
+use Rattle.dh_imports.specs.declared.outcomes.Origin.{Origin}
+use Rattle.dh_imports.specs.declared.outcomes.Origin.TheVariants as origins
+use Rattle.dh_imports.specs.declared.outcomes.Outcome.{Outcome}
+use Rattle.dh_imports.specs.declared.outcomes.Outcome.TheVariants as outcomes
+use Rattle.dh_imports.specs.declared.outcomes.Why.{Why}
+use Rattle.dh_imports.specs.declared.outcomes.Why.TheVariants as whys
 use Rattle.dh_syntax.specs.Expressions.Arity.{IsWellFormed}
 use Rattle.dh_syntax.specs.Expressions.Bridge.{term, row_of}
 use Rattle.dh_syntax.specs.Expressions.Forms as form
 use Rattle.dh_syntax.specs.Expressions.Nesting.{nesting}
 use Rattle.dh_syntax.specs.Expressions.SameTree.{digest_eq}
 use Rattle.dh_syntax.specs.Expressions.Tree.{Node, Term}
-use Rattle.dh_syntax.specs.Imports.LastStep as last
+use Rattle.dh_imports.specs.LastStep as last
 use Rattle.dh_syntax.specs.Imports.Locations.{loc_text}
-use Rattle.dh_syntax.specs.Imports.LastStep.{own, last_step, text_outcome, compared, digest_of}
-use Rattle.dh_syntax.specs.Imports.Outcomes.{Good, plain, of_blame}
-use Rattle.dh_syntax.specs.Imports.Records.{IsLimitOf, IsTyped}
-use Rattle.dh_syntax.specs.Imports.Resolver.{Has}
+use Rattle.dh_imports.specs.LastStep.{own, last_step, text_outcome, compared}
+use Rattle.dh_syntax.specs.Bytes.Digests.{digest_of}
+use Rattle.dh_imports.specs.Outcomes.{Good, plain, of_blame}
+use Rattle.dh_imports.specs.Records.{IsLimitOf, IsTyped}
+use Rattle.dh_imports.specs.Resolver.{Has}
 use Rattle.dh_syntax.specs.Limits.{most_bytes, most_nesting, whole_purse}
 use Rattle.dh_syntax.specs.Names.Indices.{IndicesBelow}
 use Rattle.dh_syntax.specs.Normalising.Named.{names}

@@ -3,7 +3,7 @@ use Rattle.std.specs.Prelude.{◌≡◌, ◌↔◌, ℕ, zero, suc, Bool, true, 
 use Rattle.std.proofs.Common.{ap, sym, ◌∙◌}
 use Rattle.dh_syntax.specs.Expressions.Numbers.{eq, bytes_eq}
 use Rattle.dh_syntax.specs.Expressions.Tree.{Row, Leaf, Node, end, kid, Name, Var, Term}
-use Rattle.dh_syntax.specs.Imports.Records.{IsClosed}
+use Rattle.dh_imports.specs.Records.{IsClosed}
 use Rattle.dh_syntax.specs.Names.Moves.{moved_row}
 use Rattle.dh_syntax.specs.Names.Nameless.{Ref, Bound, Free, Core, past, nearest, ref_of, going_nameless, core_below, to_core}
 use Rattle.dh_syntax.specs.Names.Subst.{under, is_var, is_free, is_free_row}

@@ -3,7 +3,7 @@ use Rattle.std.specs.Prelude.{◌≡◌, ◌↔◌, ◌<◌, ◌≤◌, ◌+◌,
 use Rattle.std.proofs.Common.{sym, ◌∙◌, ap, get_or, subst as along}
 use Rattle.dh_syntax.specs.declared.expressions.Op.{Op}
 use Rattle.dh_syntax.specs.Expressions.Tree.{Name, Term}
-use Rattle.dh_syntax.specs.Imports.Records.{IsClosed}
+use Rattle.dh_imports.specs.Records.{IsClosed}
 use Rattle.dh_syntax.specs.Names.Nameless.{to_core}
 use Rattle.dh_terms.specs.declared.cores.Core.{Core}
 use Rattle.dh_terms.specs.declared.cores.Core.TheVariants as cores

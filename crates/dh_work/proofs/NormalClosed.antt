@@ -7,7 +7,7 @@ use Rattle.std.proofs.Common.{ap, sym, ◌∙◌, arith, subst as along}
 use Rattle.dh_syntax.specs.declared.expressions.Op.{Op}
 use Rattle.dh_syntax.specs.Expressions.Arity.{IsWellFormed}
 use Rattle.dh_syntax.specs.Expressions.Tree.{Row, Leaf, Node, end, kid, Name, Term}
-use Rattle.dh_syntax.specs.Imports.Records.{IsClosed, IsTyped}
+use Rattle.dh_imports.specs.Records.{IsClosed, IsTyped}
 use Rattle.dh_syntax.specs.Names.Moves.{moved_row}
 use Rattle.dh_syntax.specs.Names.Nameless.{Ref, Bound, Free, Core, past, to_core}
 use Rattle.dh_syntax.specs.Normalising.Heads.{Found, Whole, run}

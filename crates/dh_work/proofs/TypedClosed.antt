@@ -11,7 +11,7 @@ use Rattle.dh_syntax.specs.declared.operators.Builtin.TheVariants as builtins
 use Rattle.dh_syntax.specs.Expressions.Arity.{plain, IsWellFormed, AreWellFormed}
 use Rattle.dh_syntax.specs.Expressions.Tree.{Row, Leaf, Node, end, kid, Name, Term}
 use Rattle.dh_syntax.specs.Expressions.Views.{bodies}
-use Rattle.dh_syntax.specs.Imports.Records.{IsTyped}
+use Rattle.dh_imports.specs.Records.{IsTyped}
 use Rattle.dh_syntax.specs.Names.Nameless.{Ref, Bound, Free, Core, going_nameless, to_core, sub, sub_row, sub_below, first}
 use Rattle.dh_syntax.specs.Normalising.Heads.{Answer, Found, Wide, Deep, Over, Whole, run}
 use Rattle.dh_syntax.specs.Normalising.NamelessRuns.{cores}

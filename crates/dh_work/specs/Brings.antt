@@ -3,8 +3,8 @@ use Rattle.std.specs.Prelude.{◌≡◌, ℕ, true, List, Option, Some, None}
 use Rattle.dh_syntax.specs.declared.locations.Digest.{Digest}
 use Rattle.dh_syntax.specs.declared.locations.Loc.{Loc}
 use Rattle.dh_syntax.specs.Expressions.Tree.{Term}
-use Rattle.dh_syntax.specs.Imports.Records as found
-use Rattle.dh_syntax.specs.Imports.Records.{IsGood}
+use Rattle.dh_imports.specs.Records as found
+use Rattle.dh_imports.specs.Records.{IsGood}
 use Rattle.dh_ports.specs.Counts.{Rose}
 use Rattle.dh_table.specs.Calls.{brings_failure}
 use Rattle.dh_table.specs.Entries.{EntryParts}

@@ -3,7 +3,7 @@
 ghost use Rattle.std.specs.Prelude.{◌≡◌, ◌<◌, ◌^◌, ◌↔◌, IfOk, IsTrue};
 ghost use Rattle.dh_syntax.specs.Expressions.Bridge.{term};
 ghost use Rattle.dh_syntax.specs.Expressions.Nesting.{nesting};
-ghost use Rattle.dh_syntax.specs.Imports.Records.{IsClosed};
+ghost use Rattle.dh_imports.specs.Records.{IsClosed};
 ghost use Rattle.dh_terms.specs.Cores.{nameless, nameless_row};
 ghost use Rattle.dh_work.specs.Inside.Frees.{has_free, has_free_row};
 

@@ -2,12 +2,12 @@
 
 ghost use Rattle.std.specs.Prelude.{◌≡◌, ◌≢◌, ◌≤◌, [], Some, IfOk, IfErr};
 ghost use Rattle.dh_syntax.specs.declared.faults.NormFault.TheVariants as norms;
-ghost use Rattle.dh_syntax.specs.declared.outcomes.Outcome.TheVariants as outcomes;
-ghost use Rattle.dh_syntax.specs.declared.outcomes.Why.TheVariants as whys;
+ghost use Rattle.dh_imports.specs.declared.outcomes.Outcome.TheVariants as outcomes;
+ghost use Rattle.dh_imports.specs.declared.outcomes.Why.TheVariants as whys;
 ghost use Rattle.dh_syntax.specs.Expressions.Arity.{IsWellFormed};
 ghost use Rattle.dh_syntax.specs.Expressions.Bridge.{term};
 ghost use Rattle.dh_syntax.specs.Expressions.Nesting.{nesting};
-ghost use Rattle.dh_syntax.specs.Imports.Records.{IsTyped};
+ghost use Rattle.dh_imports.specs.Records.{IsTyped};
 ghost use Rattle.dh_syntax.specs.Limits.{most_nesting, whole_purse};
 ghost use Rattle.dh_syntax.specs.Normalising.Named.{names};
 ghost use Rattle.dh_syntax.specs.Normalising.Normal.{HasNormalForm, IsLicensed};
@@ -16,9 +16,10 @@ ghost use Rattle.dh_table.specs.Values.{IsCode};
 ghost use Rattle.dh_work.specs.Inside.Coming.{IsCodeCame};
 
 use crate::outcomes::{fetched, own_fault};
+use dh_imports::{Outcome, Why};
 use dh_infer::infer;
 use dh_norm::normal_form;
-use dh_syntax::{Bytes, Expr, Key, NormFault, Outcome, Purse, TypeFault, WHOLE_PURSE, Why};
+use dh_syntax::{Bytes, Expr, Key, NormFault, Purse, TypeFault, WHOLE_PURSE};
 use std::alloc::{AllocError, Global};
 
 /// What comes of an item.

@@ -3,9 +3,9 @@
 ghost use Rattle.std.specs.Prelude.{◌≡◌, Some, IfOk};
 ghost use Rattle.dh_syntax.specs.Expressions.Bridge.{term};
 ghost use Rattle.dh_syntax.specs.Expressions.SameTree.{digest_eq};
-ghost use Rattle.dh_syntax.specs.Imports.LastStep as last;
-ghost use Rattle.dh_syntax.specs.Imports.Outcomes.{Good, plain};
-ghost use Rattle.dh_syntax.specs.declared.outcomes.Origin.TheVariants as origins;
+ghost use Rattle.dh_imports.specs.LastStep as last;
+ghost use Rattle.dh_imports.specs.Outcomes.{Good, plain};
+ghost use Rattle.dh_imports.specs.declared.outcomes.Origin.TheVariants as origins;
 ghost use Rattle.dh_table.specs.Values.{HasValue, IsFit, IsValue};
 ghost use Rattle.dh_work.specs.Inside.Coming.{IsCame};
 
@@ -14,7 +14,8 @@ use crate::locations::location_value;
 use crate::outcomes::own_fault;
 use crate::texts::text_outcome;
 use dh_digest::digest;
-use dh_syntax::{Digest, Expr, Key, Loc, Origin, Outcome, Why, copy};
+use dh_imports::{Origin, Outcome, Why};
+use dh_syntax::{Digest, Expr, Key, Loc, copy};
 use dh_table::{Body, Done, Item};
 use std::alloc::{AllocError, Global};
 

@@ -3,7 +3,7 @@
 ghost use Rattle.std.specs.Prelude.{◌≡◌, None, IfOk};
 ghost use Rattle.dh_syntax.specs.Expressions.Bridge.{term};
 ghost use Rattle.dh_syntax.specs.Expressions.Forms as form;
-ghost use Rattle.dh_syntax.specs.Imports.LastStep as last;
+ghost use Rattle.dh_imports.specs.LastStep as last;
 
 use crate::literals::plain_text;
 use dh_paths::loc_text;

@@ -1,10 +1,11 @@
 //! Faults of a key's own, and the origin of what was fetched.
 
 ghost use Rattle.std.specs.Prelude.{◌≡◌, Some, IfOk};
-ghost use Rattle.dh_syntax.specs.declared.outcomes.Origin.TheVariants as origins;
-ghost use Rattle.dh_syntax.specs.declared.outcomes.Outcome.TheVariants as outcomes;
+ghost use Rattle.dh_imports.specs.declared.outcomes.Origin.TheVariants as origins;
+ghost use Rattle.dh_imports.specs.declared.outcomes.Outcome.TheVariants as outcomes;
 
-use dh_syntax::{Blame, Bytes, Key, Origin, Outcome, Why};
+use dh_imports::{Blame, Origin, Outcome, Why};
+use dh_syntax::{Bytes, Key};
 use std::alloc::{AllocError, Global};
 
 /// The fault of a key's own.

@@ -2,14 +2,15 @@
 
 ghost use Rattle.std.specs.Prelude.{◌≡◌, IfOk};
 ghost use Rattle.dh_syntax.specs.Expressions.Forms as form;
-ghost use Rattle.dh_syntax.specs.Imports.LastStep as last;
-ghost use Rattle.dh_syntax.specs.Imports.Outcomes.{Good, plain};
-ghost use Rattle.dh_syntax.specs.declared.outcomes.Origin.TheVariants as origins;
+ghost use Rattle.dh_imports.specs.LastStep as last;
+ghost use Rattle.dh_imports.specs.Outcomes.{Good, plain};
+ghost use Rattle.dh_imports.specs.declared.outcomes.Origin.TheVariants as origins;
 ghost use Rattle.dh_table.specs.Values.{HasValue};
 
 use crate::literals::plain_text;
 use crate::outcomes::{fetched, own_fault};
-use dh_syntax::{Bytes, Key, MOST_BYTES, Outcome, ParseFault, Why};
+use dh_imports::{Outcome, Why};
+use dh_syntax::{Bytes, Key, MOST_BYTES, ParseFault};
 use std::alloc::{AllocError, Global};
 
 /// The text as a value.

@@ -1,5 +1,5 @@
-//! The `dhall` program: it hands the words, the standard streams and desks over the files, the environment and the cache
-//! folder to the command, and exits with its status.
+//! The `dhall` program: it hands the words, the standard streams and desks over files, the environment, plain HTTP and the
+//! cache folder to the command, and exits with its status.
 //!
 //! ```text
 //! printf '1 + 2' | dhall encode | dhall decode

@@ -2,12 +2,12 @@
 use Rattle.std.specs.Prelude.{◌≡◌, true, List, [], ◌∷◌, ◌++◌, Option, Some, None}
 use Rattle.dh_syntax.specs.declared.expressions.Expr.{Expr}
 use Rattle.dh_syntax.specs.declared.expressions.Kid.{Kid}
-use Rattle.dh_syntax.specs.declared.outcomes.Outcome as program
-use Rattle.dh_syntax.specs.declared.outcomes.Outcome.TheVariants as variants
+use Rattle.dh_imports.specs.declared.outcomes.Outcome as program
+use Rattle.dh_imports.specs.declared.outcomes.Outcome.TheVariants as variants
 use Rattle.dh_syntax.specs.Expressions.Bridge.{term, row_of}
 use Rattle.dh_syntax.specs.Expressions.Tree.{Row as Parts, Name, Var, Term}
-use Rattle.dh_syntax.specs.Imports.Outcomes.{may_go_on}
-use Rattle.dh_syntax.specs.Imports.Walk.{Walked, Ready, Fails, Turns, Needs, or_else}
+use Rattle.dh_imports.specs.Outcomes.{may_go_on}
+use Rattle.dh_imports.specs.Walk.{Walked, Ready, Fails, Turns, Needs, or_else}
 use Rattle.dh_syntax.specs.Normalising.Trees.{replace_row}
 
 -- the value of a walk that is ready, and none of one that fails where a run may go on

@@ -6,8 +6,8 @@ use Rattle.dh_syntax.specs.Expressions.Numbers.{bytes_eq}
 use Rattle.dh_syntax.specs.declared.expressions.Op.{Op}
 use Rattle.dh_syntax.specs.Expressions.SameTree.{option_eq, op_eq, term_eq, row_eq}
 use Rattle.dh_syntax.specs.Expressions.Tree.{Row as Parts, Leaf, Node, Name, Var, Term}
-use Rattle.dh_syntax.specs.Imports.Outcomes.{may_go_on}
-use Rattle.dh_syntax.specs.Imports.Walk.{Walked, Ready, Fails, Turns, Needs, or_else}
+use Rattle.dh_imports.specs.Outcomes.{may_go_on}
+use Rattle.dh_imports.specs.Walk.{Walked, Ready, Fails, Turns, Needs, or_else}
 use Rattle.dh_syntax.specs.Normalising.Trees.{replace_row}
 
 -- whether a term is there, and is this one

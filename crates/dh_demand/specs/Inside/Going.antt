@@ -1,9 +1,9 @@
 -- Whether a walk goes on after a fault.
 use Rattle.std.specs.Prelude.{Bool, false, Option, Some, None}
-use Rattle.dh_syntax.specs.declared.outcomes.Outcome as program
-use Rattle.dh_syntax.specs.declared.outcomes.Outcome.TheVariants as variants
-use Rattle.dh_syntax.specs.Imports.Outcomes.{may_go_on}
-use Rattle.dh_syntax.specs.Imports.Walk.{Walked, Ready, Fails, Turns, Needs}
+use Rattle.dh_imports.specs.declared.outcomes.Outcome as program
+use Rattle.dh_imports.specs.declared.outcomes.Outcome.TheVariants as variants
+use Rattle.dh_imports.specs.Outcomes.{may_go_on}
+use Rattle.dh_imports.specs.Walk.{Walked, Ready, Fails, Turns, Needs}
 
 -- a fault after which `l ? r` goes on
 abbrev pub goes_on : {X : Type 0} → Walked X → Bool

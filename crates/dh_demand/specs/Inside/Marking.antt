@@ -2,7 +2,7 @@
 use Rattle.std.specs.Prelude.{◌≡◌, ◌||◌, ℕ, Bool, true, List, [], ◌∷◌, filter, Option, Some, None, is_none, slice_set}
 use Rattle.dh_syntax.specs.declared.locations.Key.{Key}
 use Rattle.dh_syntax.specs.declared.locations.Loc.{Loc}
-use Rattle.dh_syntax.specs.Imports.Walk.{Fails, Turns, Ending, Goes, Stops, Circles, Course, else_by, all_courses, Ask}
+use Rattle.dh_imports.specs.Walk.{Fails, Turns, Ending, Goes, Stops, Circles, Course, else_by, all_courses, Ask}
 use Rattle.dh_demand.specs.declared.ends.Next.{Next}
 use Rattle.dh_demand.specs.declared.ends.Next.TheVariants as next
 use Rattle.dh_demand.specs.Nexts.{ComesTo}

@@ -2,7 +2,7 @@
 use Rattle.std.specs.Prelude.{Option, Some, None}
 use Rattle.dh_syntax.specs.declared.expressions.Op.{Op}
 use Rattle.dh_syntax.specs.declared.locations.Import.{Import as Written}
-use Rattle.dh_syntax.specs.Imports.Walk.{Form, importing, choosing, other, form_of}
+use Rattle.dh_imports.specs.Walk.{Form, importing, choosing, other, form_of}
 use Rattle.dh_demand.specs.declared.parts.Part.{Part}
 use Rattle.dh_demand.specs.declared.parts.Part.TheVariants.{Import, Choice, Other}
 

@@ -1,7 +1,7 @@
 -- Walks, one after the other.
 use Rattle.std.specs.Prelude.{List, [], ◌∷◌}
 use Rattle.dh_syntax.specs.Expressions.Tree.{Term}
-use Rattle.dh_syntax.specs.Imports.Walk.{Walked, Ready, and_then, or_else, in_order}
+use Rattle.dh_imports.specs.Walk.{Walked, Ready, and_then, or_else, in_order}
 
 -- how two walks end, the second after the first
 abbrev pub after : {X Y : Type 0} → Walked X → Walked Y → Walked (Unit {0})

@@ -4,13 +4,16 @@ use Rattle.std.specs.Fmt.{digits}
 use Rattle.dh_syntax.specs.declared.expressions.Op.TheVariants as ops
 use Rattle.dh_syntax.specs.declared.faults.DecodeFault.TheVariants as decode
 use Rattle.dh_syntax.specs.declared.faults.ParseFault.TheVariants as fault
-use Rattle.dh_syntax.specs.declared.statuses.Status.TheVariants as status
-use Rattle.dh_syntax.specs.Command.Answer.{misused, unread, without_memory, encoded, decoded}
-use Rattle.dh_syntax.specs.Command.FaultLines.{parse_fault_line, decode_fault_line, usage_line, read_line, write_line, memory_line}
-use Rattle.dh_syntax.specs.Command.Statuses.{code_of}
+use Rattle.dh_command.specs.declared.statuses.Status.TheVariants as status
+use Rattle.dh_command.specs.Answer.{encoded, decoded}
+use Rattle.dh_command.specs.Responses.{misused, unread, without_memory}
+use Rattle.dh_syntax.specs.FaultLines.{parse_fault_line, decode_fault_line}
+use Rattle.dh_command.specs.Lines.{usage_line, read_line, write_line, memory_line}
+use Rattle.dh_command.specs.Statuses.{code_of}
 use Rattle.dh_syntax.specs.Expressions.Tree.{Node, end}
-use Rattle.dh_syntax.specs.Command.Words.{command_of, workers_of}
-use Rattle.dh_syntax.specs.declared.verbs.Verb.TheVariants as verb
+use Rattle.dh_command.specs.StepsReplies.{AreNamed}
+use Rattle.dh_command.specs.Words.{command_of, operand_words, workers_of}
+use Rattle.dh_command.specs.declared.verbs.Verb.TheVariants as verb
 
 no_words : command_of [] ≡ Err 1
 no_words = refl
@@ -33,6 +36,28 @@ hash_with_workers = refl
 
 freeze_with_workers : command_of (codes "freeze" ∷ codes "--workers" ∷ codes "8" ∷ []) ≡ Ok (record { verb = verb.Freeze; workers = 8 })
 freeze_with_workers = refl
+
+to_json_alone : command_of (codes "to-json" ∷ []) ≡ Ok (record { verb = verb.ToJson; workers = 4 })
+to_json_alone = refl
+
+-- places are the operands of `steps`
+steps_alone : command_of (codes "steps" ∷ []) ≡ Ok (record { verb = verb.Steps; workers = 4 })
+steps_alone = refl
+
+steps_at_places : command_of (codes "steps" ∷ codes "root" ∷ codes "0/1" ∷ []) ≡ Ok (record { verb = verb.Steps; workers = 4 })
+steps_at_places = refl
+
+no_place : command_of (codes "steps" ∷ codes "root" ∷ codes "00" ∷ []) ≡ Err 3
+no_place = refl
+
+no_place_behind_workers : command_of (codes "steps" ∷ codes "--workers" ∷ codes "2" ∷ codes "root/0" ∷ []) ≡ Err 4
+no_place_behind_workers = refl
+
+operands_behind_workers : operand_words (codes "steps" ∷ codes "--workers" ∷ codes "2" ∷ codes "root" ∷ []) ≡ codes "root" ∷ []
+operands_behind_workers = refl
+
+places_named : AreNamed (codes "root" ∷ codes "1/0" ∷ []) ([] ∷ (1 ∷ 0 ∷ []) ∷ [])
+places_named = refl
 
 -- words that tell of the program
 help_words : map command_of ((codes "help" ∷ []) ∷ (codes "--help" ∷ []) ∷ (codes "-h" ∷ []) ∷ (codes "--version" ∷ []) ∷ [])
@@ -96,8 +121,9 @@ word_1 = refl
 -- ---- what is written, and the statuses
 
 statuses :
-    map code_of (status.Ok ∷ status.Text ∷ status.Ill ∷ status.Import ∷ status.Limit ∷ status.Usage ∷ status.Read ∷ status.Write ∷ status.Desk ∷ status.Memory ∷ [])
-    ≡ 0 ∷ 1 ∷ 2 ∷ 3 ∷ 4 ∷ 5 ∷ 6 ∷ 7 ∷ 8 ∷ 9 ∷ []
+    map code_of (status.Ok ∷ status.Text ∷ status.Ill ∷ status.Import ∷ status.Limit ∷ status.Usage ∷ status.Read ∷ status.Write ∷ status.Desk ∷ status.Memory
+    ∷ status.NoJson ∷ status.Step ∷ [])
+    ≡ 0 ∷ 1 ∷ 2 ∷ 3 ∷ 4 ∷ 5 ∷ 6 ∷ 7 ∷ 8 ∷ 9 ∷ 10 ∷ 11 ∷ []
 statuses = refl
 
 -- nothing to standard output, one line to standard error

@@ -3,9 +3,10 @@ use Rattle.std.specs.Prelude.{◌≡◌, ◌++◌, None, Some, codes, refl}
 use Rattle.std.specs.Fmt.{decimal}
 use Rattle.dh_syntax.specs.declared.faults.ParseFault.TheVariants as parse
 use Rattle.dh_syntax.specs.declared.locations.Loc.TheVariants as locs
-use Rattle.dh_syntax.specs.declared.outcomes.Why.TheVariants as why
-use Rattle.dh_syntax.specs.declared.statuses.Status.TheVariants as status
-use Rattle.dh_syntax.specs.Command.ImportFaults.{in_item, why_line, why_status}
+use Rattle.dh_imports.specs.declared.outcomes.Why.TheVariants as why
+use Rattle.dh_command.specs.declared.statuses.Status.TheVariants as status
+use Rattle.dh_imports.specs.ImportFaults.{in_item, why_line}
+use Rattle.dh_command.specs.Statuses.{why_status}
 use Rattle.dh_examples.specs.Imports.ImportExamples.{a_, b_, code}
 
 in_a_file : in_item (Some (code a_)) (why_line why.Absent) ≡ codes "in ./a: absent"

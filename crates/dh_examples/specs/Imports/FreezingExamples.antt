@@ -2,16 +2,17 @@
 use Rattle.std.specs.Prelude.{◌≡◌, ℕ, true, if◌then◌else◌, List, [], ◌∷◌, None, Some, codes, refl}
 use Rattle.dh_syntax.specs.declared.locations.Digest.{Digest}
 use Rattle.dh_syntax.specs.declared.operators.BinOp.TheVariants as bins
-use Rattle.dh_syntax.specs.declared.outcomes.Origin.TheVariants.{Fetched}
-use Rattle.dh_syntax.specs.declared.outcomes.Why.TheVariants.{Absent}
-use Rattle.dh_syntax.specs.Command.FrozenTexts.{Insertion, with_digests}
+use Rattle.dh_imports.specs.declared.outcomes.Origin.TheVariants.{Fetched}
+use Rattle.dh_imports.specs.declared.outcomes.Why.TheVariants.{Absent}
+use Rattle.dh_imports.specs.FrozenTexts.{Insertion, with_digests}
 use Rattle.dh_syntax.specs.Expressions.Forms as form
 use Rattle.dh_syntax.specs.Expressions.Tree.{Term}
-use Rattle.dh_syntax.specs.Imports.Freezing.{digests_behind}
+use Rattle.dh_imports.specs.Freezing.{digests_behind}
 use Rattle.dh_syntax.specs.Imports.Keys.{key_eq}
-use Rattle.dh_syntax.specs.Imports.LastStep.{digest_of, own}
-use Rattle.dh_syntax.specs.Imports.Outcomes.{Good}
-use Rattle.dh_syntax.specs.Imports.Walk.{Ask}
+use Rattle.dh_syntax.specs.Bytes.Digests.{digest_of}
+use Rattle.dh_imports.specs.LastStep.{own}
+use Rattle.dh_imports.specs.Outcomes.{Good}
+use Rattle.dh_imports.specs.Walk.{Ask}
 use Rattle.dh_examples.specs.Imports.ImportExamples.{a_, b_, code, import, one, sum}
 
 abbrev choice : Term → Term → Term

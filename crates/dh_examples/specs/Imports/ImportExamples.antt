@@ -15,17 +15,17 @@ use Rattle.dh_syntax.specs.Expressions.Forms as form
 use Rattle.dh_syntax.specs.Expressions.Tree.{Node, end, Term}
 use Rattle.sha2.specs.Sha256.{sha256, first_words, schedule, rounds, compress, hash_after, digest_bytes}
 use Rattle.dh_syntax.specs.Imports.Keys.{key_le, bare}
-use Rattle.dh_syntax.specs.Imports.LastStep.{compared, Compare, Text, own, last_step, located}
-use Rattle.dh_syntax.specs.declared.outcomes.Blame.{Blame}
-use Rattle.dh_syntax.specs.declared.outcomes.Origin.TheVariants.{Fetched, Cached, Made}
-use Rattle.dh_syntax.specs.declared.outcomes.Why.{Why}
-use Rattle.dh_syntax.specs.declared.outcomes.Why.TheVariants.{Differs, Parse, Typing, Norm, Missing, Https, Insane, Cors}
-use Rattle.dh_syntax.specs.Imports.Outcomes.{Good, Loop}
-use Rattle.dh_syntax.specs.declared.outcomes.Why.TheVariants as whys
-use Rattle.dh_syntax.specs.Imports.Records as found
-use Rattle.dh_syntax.specs.Imports.Records.{Record, Noted, Seen, nothing_recorded}
-use Rattle.dh_syntax.specs.Imports.Resolver.{TextOf, LookOf, Lacks, Has, Waits, stage, resolve}
-use Rattle.dh_syntax.specs.Imports.Walk.{Ask, Ready, Fails, Needs, walk, wants}
+use Rattle.dh_imports.specs.LastStep.{compared, Compare, Text, own, last_step, located}
+use Rattle.dh_imports.specs.declared.outcomes.Blame.{Blame}
+use Rattle.dh_imports.specs.declared.outcomes.Origin.TheVariants.{Fetched, Cached, Made}
+use Rattle.dh_imports.specs.declared.outcomes.Why.{Why}
+use Rattle.dh_imports.specs.declared.outcomes.Why.TheVariants.{Differs, Parse, Typing, Norm, Missing, Https, Insane, Cors}
+use Rattle.dh_imports.specs.Outcomes.{Good, Loop}
+use Rattle.dh_imports.specs.declared.outcomes.Why.TheVariants as whys
+use Rattle.dh_imports.specs.Records as found
+use Rattle.dh_imports.specs.Records.{Record, Noted, Seen, nothing_recorded}
+use Rattle.dh_imports.specs.Resolver.{TextOf, LookOf, Lacks, Has, Waits, stage, resolve}
+use Rattle.dh_imports.specs.Walk.{Ask, Ready, Fails, Needs, walk, wants}
 
 -- ---- keys, imports, texts
 

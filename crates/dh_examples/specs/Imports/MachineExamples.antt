@@ -1,14 +1,14 @@
 -- Worked histories of the table.
 use Rattle.std.specs.Prelude.{◌≡◌, List, [], ◌∷◌, None, refl}
 use Rattle.dh_examples.specs.Imports.ImportExamples.{a_, b_, code, import, one, says}
-use Rattle.dh_syntax.specs.Imports.LastStep.{Code}
-use Rattle.dh_syntax.specs.Imports.Machine.{stage_of, root_walk, Event, Claim, Fetched, Finished, Cycled, after_all, Fetch, Finish}
-use Rattle.dh_syntax.specs.Imports.Outcomes.{Good}
-use Rattle.dh_syntax.specs.declared.outcomes.Origin.TheVariants as origins
-use Rattle.dh_syntax.specs.Imports.Replay as replay
-use Rattle.dh_syntax.specs.Imports.Replay.{steps, keys, distinct, fetching, finishing}
-use Rattle.dh_syntax.specs.Imports.Resolver.{Has, Meets, Waits}
-use Rattle.dh_syntax.specs.Imports.Walk.{Ready, Turns}
+use Rattle.dh_imports.specs.LastStep.{Code}
+use Rattle.dh_imports.specs.Machine.{stage_of, root_walk, Event, Claim, Fetched, Finished, Cycled, after_all, Fetch, Finish}
+use Rattle.dh_imports.specs.Outcomes.{Good}
+use Rattle.dh_imports.specs.declared.outcomes.Origin.TheVariants as origins
+use Rattle.dh_imports.specs.Replay as replay
+use Rattle.dh_imports.specs.Replay.{steps, keys, distinct, fetching, finishing}
+use Rattle.dh_imports.specs.Resolver.{Has, Meets, Waits}
+use Rattle.dh_imports.specs.Walk.{Ready, Turns}
 
 -- the text `1` is fetched for `./a`, and the key is finished
 abbrev one_text : List Event

@@ -1,17 +1,17 @@
 -- Worked examples of places in a text that holds imports, and of how the root of a run ends.
 use Rattle.std.specs.Prelude.{◌≡◌, ℕ, [], ◌∷◌, None, Some, codes, refl}
 use Rattle.dh_syntax.specs.declared.operators.BinOp.TheVariants as bins
-use Rattle.dh_syntax.specs.declared.outcomes.Origin.TheVariants.{Fetched}
-use Rattle.dh_syntax.specs.declared.outcomes.Why.TheVariants.{Absent}
+use Rattle.dh_imports.specs.declared.outcomes.Origin.TheVariants.{Fetched}
+use Rattle.dh_imports.specs.declared.outcomes.Why.TheVariants.{Absent}
 use Rattle.dh_syntax.specs.Expressions.Forms as form
 use Rattle.dh_syntax.specs.Expressions.Tree.{Term}
-use Rattle.dh_syntax.specs.Imports.LastStep.{own, last_step}
-use Rattle.dh_syntax.specs.Imports.Outcomes.{Good}
-use Rattle.dh_syntax.specs.Imports.Records as found
-use Rattle.dh_syntax.specs.Imports.Replay.{ready, bad}
-use Rattle.dh_syntax.specs.Imports.RootEnds.{EndsBy, resolved}
-use Rattle.dh_syntax.specs.Imports.TextPaths.{text_path}
-use Rattle.dh_syntax.specs.Imports.Walk.{Ask, Ready, Fails}
+use Rattle.dh_imports.specs.LastStep.{own, last_step}
+use Rattle.dh_imports.specs.Outcomes.{Good}
+use Rattle.dh_imports.specs.Records as found
+use Rattle.dh_imports.specs.Replay.{ready, bad}
+use Rattle.dh_imports.specs.RootEnds.{EndsBy, resolved}
+use Rattle.dh_imports.specs.TextPaths.{text_path}
+use Rattle.dh_imports.specs.Walk.{Ask, Ready, Fails}
 use Rattle.dh_examples.specs.Imports.ImportExamples.{a_, code, import, one, says, sum, texts}
 
 abbrev choice : Term → Term → Term

@@ -48,9 +48,13 @@ truth false = codes "False"
 
 -- ---- imports
 
+-- the 64 hexadecimal digits of a digest
+abbrev pub digest_digits : Digest → List ℕ
+digest_digits d = flat_map (λ b. digit_glyph false (b / 16) ∷ digit_glyph false (b % 16) ∷ []) d.0
+
 abbrev pub digest_text : Option Digest → List ℕ
 digest_text None = []
-digest_text (Some d) = codes " sha256:" ++ flat_map (λ b. digit_glyph false (b / 16) ∷ digit_glyph false (b % 16) ∷ []) d.0
+digest_text (Some d) = codes " sha256:" ++ digest_digits d
 
 abbrev pub mode_text : Mode → List ℕ
 mode_text mode.Code = []

@@ -3,18 +3,18 @@ use Rattle.std.specs.Prelude.{◌≡◌, List, map, reverse, Some, Result, Ok, E
 use Rattle.dh_syntax.specs.declared.faults.ParseFault.{ParseFault}
 use Rattle.dh_syntax.specs.declared.locations.Key.{Key}
 use Rattle.dh_syntax.specs.declared.locations.Loc.{Loc}
-use Rattle.dh_syntax.specs.declared.outcomes.Blame.{Blame}
-use Rattle.dh_syntax.specs.declared.outcomes.Why.TheVariants.{Cycle}
+use Rattle.dh_imports.specs.declared.outcomes.Blame.{Blame}
+use Rattle.dh_imports.specs.declared.outcomes.Why.TheVariants.{Cycle}
 use Rattle.dh_demand.specs.declared.scans.Scan.{Scan}
 use Rattle.dh_syntax.specs.Expressions.Bridge.{term}
 use Rattle.dh_syntax.specs.Expressions.SameTree.{loc_eq}
 use Rattle.dh_syntax.specs.Expressions.Spellable.{IsSpellable}
 use Rattle.dh_syntax.specs.Expressions.Tree.{Term}
-use Rattle.dh_syntax.specs.Imports.Records as found
-use Rattle.dh_syntax.specs.Imports.Records.{lookup}
-use Rattle.dh_syntax.specs.Imports.LastStep as last
-use Rattle.dh_syntax.specs.Imports.Resolver.{Stage, Has}
-use Rattle.dh_syntax.specs.Imports.Walk.{Walked, Ready, Fails, Turns, Needs}
+use Rattle.dh_imports.specs.Records as found
+use Rattle.dh_imports.specs.Records.{lookup}
+use Rattle.dh_imports.specs.LastStep as last
+use Rattle.dh_imports.specs.Resolver.{Stage, Has}
+use Rattle.dh_imports.specs.Walk.{Walked, Ready, Fails, Turns, Needs}
 use Rattle.dh_table.specs.declared.items.Item.{Item}
 use Rattle.dh_table.specs.declared.texts.Entrant.{Entrant}
 use Rattle.dh_table.specs.declared.texts.Text.{Text}

@@ -2,10 +2,10 @@
 use Rattle.std.specs.Prelude.{◌≡◌, ℕ, ◌≤◌, ◌++◌, if◌then◌else◌, false, List, [], ◌∷◌, length, map, Option, Some, None, All, slice_index_or, slice_set}
 use Rattle.dh_syntax.specs.declared.locations.Key.{Key}
 use Rattle.dh_syntax.specs.declared.locations.Loc.{Loc}
-use Rattle.dh_syntax.specs.declared.outcomes.Outcome.{Outcome}
+use Rattle.dh_imports.specs.declared.outcomes.Outcome.{Outcome}
 use Rattle.dh_syntax.specs.Imports.Keys.{bare}
 use Rattle.dh_syntax.specs.Imports.Locations.{loc_text}
-use Rattle.dh_syntax.specs.Imports.Resolver.{is_in}
+use Rattle.dh_imports.specs.Resolver.{is_in}
 use Rattle.dh_demand.specs.declared.scans.Edge.{Edge}
 use Rattle.dh_demand.specs.Results.{Row, number_of}
 use Rattle.dh_demand.specs.Scans.{IsEdge}

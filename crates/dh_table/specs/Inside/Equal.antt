@@ -7,15 +7,15 @@ use Rattle.dh_syntax.specs.declared.faults.ParseFault.TheVariants as parses
 use Rattle.dh_syntax.specs.declared.faults.TypeFault.{TypeFault}
 use Rattle.dh_syntax.specs.declared.faults.TypeFault.TheVariants as types
 use Rattle.dh_syntax.specs.declared.locations.Key.{Key}
-use Rattle.dh_syntax.specs.declared.outcomes.Origin.{Origin}
-use Rattle.dh_syntax.specs.declared.outcomes.Origin.TheVariants as origins
-use Rattle.dh_syntax.specs.declared.outcomes.Why.{Why}
-use Rattle.dh_syntax.specs.declared.outcomes.Why.TheVariants as whys
+use Rattle.dh_imports.specs.declared.outcomes.Origin.{Origin}
+use Rattle.dh_imports.specs.declared.outcomes.Origin.TheVariants as origins
+use Rattle.dh_imports.specs.declared.outcomes.Why.{Why}
+use Rattle.dh_imports.specs.declared.outcomes.Why.TheVariants as whys
 use Rattle.dh_syntax.specs.Expressions.Numbers.{bytes_eq}
 use Rattle.dh_syntax.specs.Expressions.SameTree.{option_eq, digest_eq, loc_eq, term_eq}
 use Rattle.dh_syntax.specs.Imports.Keys.{key_eq}
-use Rattle.dh_syntax.specs.Imports.LastStep as last
-use Rattle.dh_syntax.specs.Imports.Resolver.{Stage, Has, Meets}
+use Rattle.dh_imports.specs.LastStep as last
+use Rattle.dh_imports.specs.Resolver.{Stage, Has, Meets}
 
 abbrev pub parse_eq : ParseFault → ParseFault → Bool
 parse_eq (parses.NotUtf8 m) (parses.NotUtf8 n) = m == n

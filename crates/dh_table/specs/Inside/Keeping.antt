@@ -3,18 +3,18 @@ use Rattle.std.specs.Prelude.{◌≡◌, ◌↔◌, ◌<◌, ◌≤◌, ℕ, Boo
 use Rattle.dh_syntax.specs.declared.expressions.Expr.{Expr}
 use Rattle.dh_syntax.specs.declared.locations.Digest.{Digest}
 use Rattle.dh_syntax.specs.declared.locations.Key.{Key}
-use Rattle.dh_syntax.specs.declared.outcomes.Origin.{Origin}
-use Rattle.dh_syntax.specs.declared.outcomes.Outcome.TheVariants as variants
+use Rattle.dh_imports.specs.declared.outcomes.Origin.{Origin}
+use Rattle.dh_imports.specs.declared.outcomes.Outcome.TheVariants as variants
 use Rattle.dh_syntax.specs.Bytes.Binary.{enc}
 use Rattle.dh_syntax.specs.Expressions.Bridge.{term}
 use Rattle.dh_syntax.specs.Expressions.Order.{ascending}
 use Rattle.dh_syntax.specs.Expressions.Tree.{Term}
-use Rattle.dh_syntax.specs.Imports.Keeps.{Visited, asked_by, digests_of, HasNoEntry}
+use Rattle.dh_imports.specs.Keeps.{Visited, asked_by, digests_of, HasNoEntry}
 use Rattle.dh_syntax.specs.Imports.Keys.{digest_rank, key_le}
-use Rattle.dh_syntax.specs.Imports.Machine.{IsAmong}
-use Rattle.dh_syntax.specs.Imports.Records.{Record}
-use Rattle.dh_syntax.specs.Imports.Resolver.{plan}
-use Rattle.dh_syntax.specs.Imports.Walk.{course}
+use Rattle.dh_imports.specs.Machine.{IsAmong}
+use Rattle.dh_imports.specs.Records.{Record}
+use Rattle.dh_imports.specs.Resolver.{plan}
+use Rattle.dh_imports.specs.Walk.{course}
 use Rattle.dh_syntax.specs.Limits.{most_entry_bytes}
 use Rattle.dh_syntax.specs.Names.Alpha.{alpha}
 use Rattle.dh_demand.specs.Results.{ask_of}

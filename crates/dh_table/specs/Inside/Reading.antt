@@ -5,10 +5,10 @@ use Rattle.dh_syntax.specs.declared.locations.Key.{Key}
 use Rattle.dh_syntax.specs.declared.locations.Loc.{Loc}
 use Rattle.dh_syntax.specs.Expressions.Bridge.{term}
 use Rattle.dh_syntax.specs.Expressions.Tree.{Term}
-use Rattle.dh_syntax.specs.Imports.Records as found
-use Rattle.dh_syntax.specs.Imports.Records.{Record}
-use Rattle.dh_syntax.specs.Imports.Resolver.{TextOf, LookOf, Unknown, Now, Walks, Asks, Lacks, Has, Meets, Waits, Stage}
-use Rattle.dh_syntax.specs.Imports.Resolver as resolver
+use Rattle.dh_imports.specs.Records as found
+use Rattle.dh_imports.specs.Records.{Record}
+use Rattle.dh_imports.specs.Resolver.{TextOf, LookOf, Unknown, Now, Walks, Asks, Lacks, Has, Meets, Waits, Stage}
+use Rattle.dh_imports.specs.Resolver as resolver
 use Rattle.dh_demand.specs.declared.scans.Scan.{Scan}
 use Rattle.dh_demand.specs.Results.{Row, number_of}
 use Rattle.dh_demand.specs.Scans.{Fits, text_key}

@@ -1,14 +1,14 @@
 -- What comes of the item of a key.
 use Rattle.std.specs.Prelude.{◌≡◌, ℕ, true, false, List, Option, [], None}
 use Rattle.dh_syntax.specs.declared.locations.Key.{Key}
-use Rattle.dh_syntax.specs.declared.outcomes.Outcome.{Outcome}
+use Rattle.dh_imports.specs.declared.outcomes.Outcome.{Outcome}
 use Rattle.dh_syntax.specs.Bytes.BinaryRead.{Reads}
 use Rattle.dh_syntax.specs.Expressions.Tree.{Term}
-use Rattle.dh_syntax.specs.Imports.LastStep as last
-use Rattle.dh_syntax.specs.Imports.Outcomes.{plain}
-use Rattle.dh_syntax.specs.Imports.Records.{IsClosed}
-use Rattle.dh_syntax.specs.Imports.Resolver.{Has}
-use Rattle.dh_syntax.specs.Imports.Walk.{keys_of}
+use Rattle.dh_imports.specs.LastStep as last
+use Rattle.dh_imports.specs.Outcomes.{plain}
+use Rattle.dh_imports.specs.Records.{IsClosed}
+use Rattle.dh_imports.specs.Resolver.{Has}
+use Rattle.dh_imports.specs.Walk.{keys_of}
 use Rattle.dh_import_laws.specs.ImportLaws.{ComesOf}
 use Rattle.dh_table.specs.declared.items.Item.{Item}
 use Rattle.dh_table.specs.Items.{IsLast, IsLimit}

@@ -1,6 +1,6 @@
 use Rattle.std.proofs.Common.{rules, length, sym, ap, ◌∙◌, drop, refl, Some, None, subst as along}
 use Rattle.dh_syntax.specs.Expressions.Bridge.{term, row_of}
-use Rattle.dh_syntax.specs.Imports.Walk.{in_order, walk, walks, keys_of_row}
+use Rattle.dh_imports.specs.Walk.{in_order, walk, walks, keys_of_row}
 use Rattle.dh_demand.specs.Results.{ask_of}
 use Rattle.dh_demand.specs.Scans.{text_key, imports_of_parts}
 use Rattle.dh_demand.specs.Inside.Building.{IsBuilt, AreBuilt, IsSideBuilt}

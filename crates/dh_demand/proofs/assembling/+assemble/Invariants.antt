@@ -1,7 +1,7 @@
 use Rattle.std.proofs.Common.{◌≡◌, drop, Option}
 use Rattle.dh_syntax.specs.declared.locations.Loc.{Loc}
 use Rattle.dh_syntax.specs.Expressions.Bridge.{row_of}
-use Rattle.dh_syntax.specs.Imports.Walk.{keys_of_row}
+use Rattle.dh_imports.specs.Walk.{keys_of_row}
 use Rattle.dh_demand.specs.Scans.{AreInside, Begins, imports_of_parts}
 use Rattle.dh_demand.proofs.Building.{BuiltSoFar}
 use Rattle.dh_demand.proofs.assembling.+assemble.Given as goal

@@ -1,8 +1,8 @@
 use Rattle.std.proofs.Common.{rules, ◌≡◌, ◌++◌, length, sym, ap, ◌∙◌, drop, refl, true, false, subst as along}
 use Rattle.std.specs.Prelude.{None, ◌&&◌}
 use Rattle.dh_syntax.specs.Expressions.Bridge.{term, row_of}
-use Rattle.dh_syntax.specs.Imports.Freezing.{digests_behind_row, goes_on}
-use Rattle.dh_syntax.specs.Imports.Walk.{Ready, choosing, other, in_order, walk, walks, keys_of_row}
+use Rattle.dh_imports.specs.Freezing.{digests_behind_row, goes_on}
+use Rattle.dh_imports.specs.Walk.{Ready, choosing, other, in_order, walk, walks, keys_of_row}
 use Rattle.dh_demand.specs.Digests.{digests_at}
 use Rattle.dh_demand.specs.Results.{ask_of}
 use Rattle.dh_demand.specs.Scans.{imports_of_parts}

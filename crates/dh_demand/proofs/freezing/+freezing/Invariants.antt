@@ -1,8 +1,8 @@
 use Rattle.std.proofs.Common.{◌≡◌, ◌++◌, drop, true}
 use Rattle.std.specs.Prelude.{None}
 use Rattle.dh_syntax.specs.Expressions.Bridge.{row_of}
-use Rattle.dh_syntax.specs.Imports.Freezing.{digests_behind_row}
-use Rattle.dh_syntax.specs.Imports.Walk.{choosing, other, keys_of_row}
+use Rattle.dh_imports.specs.Freezing.{digests_behind_row}
+use Rattle.dh_imports.specs.Walk.{choosing, other, keys_of_row}
 use Rattle.dh_demand.specs.Digests.{digests_at, HaveValues}
 use Rattle.dh_demand.specs.Inside.Here.{is_ready}
 use Rattle.dh_demand.specs.Nexts.{IsInside}

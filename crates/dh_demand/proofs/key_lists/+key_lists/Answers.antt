@@ -1,7 +1,7 @@
 use Rattle.std.proofs.Common.{ap, ◌∙◌, ◌++◌}
 use Rattle.std.specs.Option.{option_copied}
 use Rattle.dh_syntax.specs.Expressions.Bridge.{row_of}
-use Rattle.dh_syntax.specs.Imports.Walk.{keys_of_row}
+use Rattle.dh_imports.specs.Walk.{keys_of_row}
 use Rattle.dh_demand.proofs.ImportKeys.{variable_keys, node_keys, more_keys, all_keys}
 use Rattle.dh_demand.proofs.key_lists.+key_lists.Goals as goal
 

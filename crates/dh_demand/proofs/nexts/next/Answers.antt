@@ -1,4 +1,4 @@
-use Rattle.dh_syntax.specs.Imports.Walk.{Ready}
+use Rattle.dh_imports.specs.Walk.{Ready}
 use Rattle.dh_demand.proofs.Nexting.{unbuilt}
 use Rattle.dh_demand.proofs.nexts.next.Goals as goal
 

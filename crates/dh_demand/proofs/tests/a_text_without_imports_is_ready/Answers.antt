@@ -5,7 +5,7 @@ use Rattle.dh_syntax.specs.declared.expressions.Kid.{Kid}
 use Rattle.dh_syntax.specs.declared.expressions.Op.TheVariants as ops
 use Rattle.dh_syntax.specs.Expressions.Bridge.{term, row_of}
 use Rattle.dh_syntax.specs.Expressions.Tree.{Node, end, Term}
-use Rattle.dh_syntax.specs.Imports.Walk.{other, walk, walk_node, walks, keys_of, keys_of_row}
+use Rattle.dh_imports.specs.Walk.{other, walk, walk_node, walks, keys_of, keys_of_row}
 use Rattle.dh_syntax.proofs.Bridge.{row_of-nil, at_term-Node}
 use Rattle.dh_demand.specs.declared.scans.Edge.{Edge}
 use Rattle.dh_demand.specs.Results.{Row, ask_of}

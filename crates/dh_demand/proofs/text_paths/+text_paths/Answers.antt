@@ -2,8 +2,8 @@ use Rattle.std.proofs.Common.{rules, ◌≡◌, ◌++◌, ◌∷◌, [], length,
 use Rattle.std.proofs.lemmas.List.{append_assoc}
 use Rattle.std.specs.Option.{option_copied}
 use Rattle.dh_syntax.specs.Expressions.Bridge.{term, row_of}
-use Rattle.dh_syntax.specs.Imports.TextPaths.{way_on, way_into, text_path, text_paths}
-use Rattle.dh_syntax.specs.Imports.Walk.{Ready, choosing, keys_of_row, walk, walks}
+use Rattle.dh_imports.specs.TextPaths.{way_on, way_into, text_path, text_paths}
+use Rattle.dh_imports.specs.Walk.{Ready, choosing, keys_of_row, walk, walks}
 use Rattle.dh_demand.specs.declared.ends.Next.TheVariants as next
 use Rattle.dh_demand.specs.Results.{ask_of}
 use Rattle.dh_demand.specs.Scans.{text_key}

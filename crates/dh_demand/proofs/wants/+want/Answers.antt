@@ -1,7 +1,7 @@
 use Rattle.std.proofs.Common.{rules, ◌≡◌, length, sym, ap, ◌∙◌, drop, refl, subst as along}
 use Rattle.std.specs.Option.{option_copied}
 use Rattle.dh_syntax.specs.Expressions.Bridge.{term, row_of}
-use Rattle.dh_syntax.specs.Imports.Walk.{Goes, all_courses, course, courses, keys_of_row}
+use Rattle.dh_imports.specs.Walk.{Goes, all_courses, course, courses, keys_of_row}
 use Rattle.dh_demand.specs.Results.{ask_of}
 use Rattle.dh_demand.specs.Scans.{text_key, imports_of_parts}
 use Rattle.dh_demand.specs.Inside.Marking.{Wanting, nothing_asked, choice_course}

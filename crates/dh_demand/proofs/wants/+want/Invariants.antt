@@ -1,7 +1,7 @@
 use Rattle.std.proofs.Common.{◌≡◌, drop, length}
 use Rattle.std.specs.Option.{option_copied}
 use Rattle.dh_syntax.specs.Expressions.Bridge.{row_of}
-use Rattle.dh_syntax.specs.Imports.Walk.{keys_of_row}
+use Rattle.dh_imports.specs.Walk.{keys_of_row}
 use Rattle.dh_demand.specs.Nexts.{IsInside}
 use Rattle.dh_demand.specs.Scans.{AreInside, Begins, imports_of_parts}
 use Rattle.dh_demand.specs.Wants.{HaveMarks}

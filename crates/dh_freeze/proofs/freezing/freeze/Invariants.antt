@@ -1,5 +1,5 @@
 use Rattle.std.proofs.Common.{◌≡◌, ◌++◌, length}
-use Rattle.dh_syntax.specs.Command.FrozenTexts.{with_digests}
+use Rattle.dh_imports.specs.FrozenTexts.{with_digests}
 use Rattle.dh_freeze.specs.Insertions.{insertions}
 use Rattle.dh_freeze.proofs.freezing.freeze.Given as goal
 

@@ -1,6 +1,6 @@
 use Rattle.std.proofs.Common.{◌≡◌}
 use Rattle.std.proofs.lemmas.Result.{IfOk-weaker}
-use Rattle.dh_syntax.specs.Command.FrozenTexts.{with_digests}
+use Rattle.dh_imports.specs.FrozenTexts.{with_digests}
 use Rattle.dh_freeze.specs.Insertions.{insertions}
 use Rattle.dh_freeze.proofs.Frozen.{frozen_is}
 use Rattle.dh_freeze.proofs.freezing.frozen_text.Goals as goal

@@ -1,8 +1,8 @@
 use Rattle.std.proofs.Common.{rules, sym, subst as along}
 use Rattle.std.specs.Prelude.{◌↔◌, Some}
 use Rattle.std.proofs.lemmas.List.Sorted.{IsNonDecreasingBy-from_sort_by_key}
-use Rattle.dh_syntax.specs.Command.FrozenTexts.{Ascend, side_by_side}
-use Rattle.dh_syntax.specs.Imports.Machine.{IsAmong}
+use Rattle.dh_imports.specs.FrozenTexts.{Ascend, side_by_side}
+use Rattle.dh_imports.specs.Machine.{IsAmong}
 use Rattle.dh_freeze.specs.declared.places.Place.{Place}
 use Rattle.dh_freeze.specs.Insertions.{insertions}
 use Rattle.dh_freeze.proofs.Pairing.{members, sorted_ascends}

@@ -7,7 +7,7 @@ use Rattle.dh_syntax.specs.declared.locations.Loc.{Loc}
 use Rattle.dh_syntax.specs.declared.locations.Loc.TheVariants as locs
 use Rattle.dh_syntax.specs.declared.locations.Mode.TheVariants as modes
 use Rattle.dh_syntax.specs.Expressions.Tree.{Node, end, Term}
-use Rattle.dh_syntax.specs.Imports.Walk.{keys_of}
+use Rattle.dh_imports.specs.Walk.{keys_of}
 use Rattle.dh_syntax.specs.Text.Derivation.{import, path}
 use Rattle.dh_syntax.specs.Text.Lexing.{lex}
 use Rattle.dh_syntax.specs.Text.Spelling.{ParsesTo, Spells}

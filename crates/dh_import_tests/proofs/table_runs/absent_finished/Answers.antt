@@ -3,12 +3,12 @@ use Rattle.std.specs.Prelude.{ℕ, List, false}
 use Rattle.dh_syntax.specs.declared.locations.Key.{Key}
 use Rattle.dh_syntax.specs.declared.locations.Loc.TheVariants as locs
 use Rattle.dh_syntax.specs.declared.locations.Mode.TheVariants as modes
-use Rattle.dh_syntax.specs.declared.outcomes.Blame.{Blame}
-use Rattle.dh_syntax.specs.declared.outcomes.Outcome.TheVariants as outcomes
-use Rattle.dh_syntax.specs.declared.outcomes.Why.TheVariants as whys
-use Rattle.dh_syntax.specs.Imports.LastStep as last
-use Rattle.dh_syntax.specs.Imports.LastStep.{last_step}
-use Rattle.dh_syntax.specs.Imports.Outcomes.{Bad}
+use Rattle.dh_imports.specs.declared.outcomes.Blame.{Blame}
+use Rattle.dh_imports.specs.declared.outcomes.Outcome.TheVariants as outcomes
+use Rattle.dh_imports.specs.declared.outcomes.Why.TheVariants as whys
+use Rattle.dh_imports.specs.LastStep as last
+use Rattle.dh_imports.specs.LastStep.{last_step}
+use Rattle.dh_imports.specs.Outcomes.{Bad}
 use Rattle.dh_table.specs.declared.items.Body.TheVariants as body
 use Rattle.dh_table.specs.Items.{IsLast}
 use Rattle.dh_import_tests.proofs.table_runs.absent_finished.Goals as goal

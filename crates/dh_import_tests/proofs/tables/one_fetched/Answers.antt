@@ -4,7 +4,7 @@ use Rattle.std.proofs.lemmas.Bool.{leb-true}
 use Rattle.dh_syntax.specs.declared.expressions.Op.TheVariants as ops
 use Rattle.dh_syntax.specs.declared.locations.Key.{Key}
 use Rattle.dh_syntax.specs.Expressions.Tree.{Node, end, Term}
-use Rattle.dh_syntax.specs.Imports.Walk.{keys_of}
+use Rattle.dh_imports.specs.Walk.{keys_of}
 use Rattle.dh_syntax.specs.Text.Derivation.{natural}
 use Rattle.dh_syntax.specs.Text.Lexing.{lex}
 use Rattle.dh_syntax.specs.Text.Spelling.{ParsesTo, Spells}

@@ -3,11 +3,11 @@ use Rattle.std.proofs.lemmas.Bool.{leb-true}
 use Rattle.dh_syntax.specs.declared.expressions.Op.TheVariants as ops
 use Rattle.dh_syntax.specs.declared.locations.Key.{Key}
 use Rattle.dh_syntax.specs.declared.locations.Mode.TheVariants as modes
-use Rattle.dh_syntax.specs.declared.outcomes.Origin.TheVariants as origins
+use Rattle.dh_imports.specs.declared.outcomes.Origin.TheVariants as origins
 use Rattle.dh_syntax.specs.Expressions.Tree.{Node, end, Term}
-use Rattle.dh_syntax.specs.Imports.LastStep as last
-use Rattle.dh_syntax.specs.Imports.LastStep.{last_step}
-use Rattle.dh_syntax.specs.Imports.Outcomes.{Good}
+use Rattle.dh_imports.specs.LastStep as last
+use Rattle.dh_imports.specs.LastStep.{last_step}
+use Rattle.dh_imports.specs.Outcomes.{Good}
 use Rattle.dh_table.specs.Values.{IsValue}
 use Rattle.dh_import_tests.proofs.tables.one_finished.Goals as goal
 

@@ -1,5 +1,5 @@
 use Rattle.std.proofs.Common.{refl}
-use Rattle.dh_syntax.specs.Command.Answer.{without_memory}
+use Rattle.dh_command.specs.Responses.{without_memory}
 use Rattle.dh_top.specs.Outside.{nothing_found}
 use Rattle.dh_top.specs.Runs.{lacks_memory, lacks_early}
 use Rattle.dh_top.proofs.RunLaws.{ran}

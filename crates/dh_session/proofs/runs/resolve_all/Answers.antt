@@ -2,13 +2,13 @@ use Rattle.std.proofs.Common.{◌≡◌, map, ap, sym, ◌∙◌, subst, false, 
 use Rattle.std.specs.Prelude.{IfSome}
 use Rattle.dh_syntax.specs.Expressions.Bridge.{term}
 use Rattle.dh_syntax.specs.Expressions.Tree.{Term}
-use Rattle.dh_syntax.specs.Imports.Machine.{State, opening}
-use Rattle.dh_syntax.specs.Imports.Replay.{has_too_many, root_end}
+use Rattle.dh_imports.specs.Machine.{State, opening}
+use Rattle.dh_imports.specs.Replay.{has_too_many, root_end}
 use Rattle.dh_table.specs.Roots.{IsFitEnd}
 use Rattle.dh_table.specs.Shown.{Shown}
 use Rattle.dh_table.specs.States.{state_of}
 use Rattle.dh_session.specs.Ended.{Ends, NoneFell}
-use Rattle.dh_syntax.specs.Imports.RootEnds.{EndsBy}
+use Rattle.dh_imports.specs.RootEnds.{EndsBy}
 use Rattle.dh_session.proofs.Answering.{ok_map, ok_both, no_fault}
 use Rattle.dh_session.proofs.runs.resolve_all.Goals as goal
 
@@ -44,3 +44,6 @@ pub returns-clause-counted : goal.returns-clause-counted
 returns-clause-counted g c =
     ok_map c.answer_of.result (λ a. a.table ≡ c.in_ok-closed.closed) (λ a. NoneFell (map (λ d. g.D.Desk.faults d) c.args.desks.now.items) (map (λ d. g.D.Desk.faults d) c.run.new.desks.items))
     (λ a same. c.in_ok-closed.ensures.counted) c.answer_of.ensures.same
+
+pub returns-clause-alone : goal.returns-clause-alone
+returns-clause-alone g c = no_fault (c.run.new.desks.items ≡ c.args.desks.now.items) c.answer_of.result c.answer_of.ensures.memory

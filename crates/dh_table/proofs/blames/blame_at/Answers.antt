@@ -2,10 +2,10 @@ use Rattle.std.proofs.Common.{◌≡◌, ap, sym, ◌∙◌, Some, subst as alon
 use Rattle.std.specs.Option.{option_copied}
 use Rattle.std.proofs.lemmas.Result.{IfOk-weaker}
 use Rattle.dh_syntax.specs.declared.locations.Loc.{Loc}
-use Rattle.dh_syntax.specs.declared.outcomes.Outcome.{Outcome}
-use Rattle.dh_syntax.specs.declared.outcomes.Why.TheVariants as whys
+use Rattle.dh_imports.specs.declared.outcomes.Outcome.{Outcome}
+use Rattle.dh_imports.specs.declared.outcomes.Why.TheVariants as whys
 use Rattle.dh_syntax.specs.Expressions.Tree.{Term}
-use Rattle.dh_syntax.specs.Imports.Walk.{Walked}
+use Rattle.dh_imports.specs.Walk.{Walked}
 use Rattle.dh_demand.specs.declared.ends.Next.TheVariants as next
 use Rattle.dh_demand.specs.Nexts.{IsNext}
 use Rattle.dh_demand.specs.Results.{outcome_at}

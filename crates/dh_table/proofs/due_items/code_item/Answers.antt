@@ -2,8 +2,8 @@ use Rattle.std.proofs.Common.{◌≡◌, ap, sym, ◌∙◌, Some, subst as alon
 use Rattle.std.proofs.lemmas.Result.{IfOk-weaker}
 use Rattle.dh_syntax.specs.declared.locations.Key.{Key}
 use Rattle.dh_syntax.specs.Expressions.Bridge.{term}
-use Rattle.dh_syntax.specs.Imports.Resolver.{of_walk}
-use Rattle.dh_syntax.specs.Imports.Walk.{walk}
+use Rattle.dh_imports.specs.Resolver.{of_walk}
+use Rattle.dh_imports.specs.Walk.{walk}
 use Rattle.dh_demand.specs.Results.{ask_of}
 use Rattle.dh_demand.specs.Scans.{text_key}
 use Rattle.dh_table.specs.Inside.Due.{IsItem}

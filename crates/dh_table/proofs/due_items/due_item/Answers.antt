@@ -5,8 +5,8 @@ use Rattle.std.proofs.lemmas.List.{get_or_default}
 use Rattle.dh_syntax.specs.declared.locations.Digest.{Digest}
 use Rattle.dh_syntax.specs.declared.locations.Key.{Key}
 use Rattle.dh_syntax.specs.Expressions.SameTree.{digest_eq}
-use Rattle.dh_syntax.specs.Imports.Records.{lookup}
-use Rattle.dh_syntax.specs.Imports.Resolver.{of_plan, plan_digest, plan_look, stage}
+use Rattle.dh_imports.specs.Records.{lookup}
+use Rattle.dh_imports.specs.Resolver.{of_plan, plan_digest, plan_look, stage}
 use Rattle.dh_demand.specs.Results.{ask_of}
 use Rattle.dh_table.specs.declared.texts.Entrant.{Entrant}
 use Rattle.dh_table.specs.Inside.Due.{IsItem}

@@ -3,9 +3,9 @@ use Rattle.std.specs.Option.{option_copied, option_map}
 use Rattle.std.specs.Prelude.{map, reverse}
 use Rattle.dh_syntax.specs.declared.locations.Key.{Key}
 use Rattle.dh_syntax.specs.Expressions.SameTree.{loc_eq}
-use Rattle.dh_syntax.specs.Imports.Machine.{IsDue}
-use Rattle.dh_syntax.specs.Imports.Records.{lookup}
-use Rattle.dh_syntax.specs.Imports.Resolver.{of_plan, plan_fetch, plan_text, unfetched}
+use Rattle.dh_imports.specs.Machine.{IsDue}
+use Rattle.dh_imports.specs.Records.{lookup}
+use Rattle.dh_imports.specs.Resolver.{of_plan, plan_fetch, plan_text, unfetched}
 use Rattle.dh_demand.specs.Results.{ask_of}
 use Rattle.dh_table.specs.Inside.Reading.{noted_of, record_by}
 use Rattle.dh_table.specs.States.{rows_of, text_of}

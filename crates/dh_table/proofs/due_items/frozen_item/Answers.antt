@@ -4,9 +4,9 @@ use Rattle.std.proofs.lemmas.Result.{IfOk-weaker}
 use Rattle.dh_syntax.specs.declared.locations.Digest.{Digest}
 use Rattle.dh_syntax.specs.declared.locations.Key.{Key}
 use Rattle.dh_syntax.specs.Imports.Keys.{bare}
-use Rattle.dh_syntax.specs.Imports.Machine.{IsDue}
-use Rattle.dh_syntax.specs.Imports.Outcomes.{plain}
-use Rattle.dh_syntax.specs.Imports.Resolver.{of_bare, of_plan, plan_look}
+use Rattle.dh_imports.specs.Machine.{IsDue}
+use Rattle.dh_imports.specs.Outcomes.{plain}
+use Rattle.dh_imports.specs.Resolver.{of_bare, of_plan, plan_look}
 use Rattle.dh_demand.specs.Results.{ask_of}
 use Rattle.dh_demand.proofs.Numbers.{within}
 use Rattle.dh_table.specs.Inside.Due.{IsItem}

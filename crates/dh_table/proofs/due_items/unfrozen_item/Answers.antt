@@ -1,8 +1,8 @@
 use Rattle.std.proofs.Common.{sym, true, false, List, subst as along}
 use Rattle.std.proofs.lemmas.Result.{IfOk-weaker}
 use Rattle.dh_syntax.specs.declared.locations.Key.{Key}
-use Rattle.dh_syntax.specs.Imports.Machine.{IsDue}
-use Rattle.dh_syntax.specs.Imports.Resolver.{of_plan, plan_fetch, plan_mode, unfetched}
+use Rattle.dh_imports.specs.Machine.{IsDue}
+use Rattle.dh_imports.specs.Resolver.{of_plan, plan_fetch, plan_mode, unfetched}
 use Rattle.dh_demand.specs.Results.{ask_of}
 use Rattle.dh_table.specs.declared.texts.Look.{Look}
 use Rattle.dh_table.specs.Inside.Due.{IsItem}

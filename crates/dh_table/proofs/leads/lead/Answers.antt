@@ -3,8 +3,8 @@ use Rattle.std.specs.Prelude.{List, Some}
 use Rattle.std.proofs.lemmas.List.{length-map}
 use Rattle.dh_syntax.specs.declared.locations.Key.{Key}
 use Rattle.dh_syntax.specs.Expressions.Bridge.{term}
-use Rattle.dh_syntax.specs.Imports.Machine.{leads_by}
-use Rattle.dh_syntax.specs.Imports.Walk.{wants}
+use Rattle.dh_imports.specs.Machine.{leads_by}
+use Rattle.dh_imports.specs.Walk.{wants}
 use Rattle.dh_demand.specs.declared.scans.Edge.{Edge}
 use Rattle.dh_demand.specs.Results.{ask_of}
 use Rattle.dh_demand.specs.Scans.{text_key}

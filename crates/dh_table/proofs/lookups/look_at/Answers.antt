@@ -1,6 +1,6 @@
 use Rattle.std.proofs.Common.{◌≡◌, Some, None, List, map, reverse, subst as along}
 use Rattle.dh_syntax.specs.Expressions.SameTree.{digest_eq}
-use Rattle.dh_syntax.specs.Imports.Records.{lookup}
+use Rattle.dh_imports.specs.Records.{lookup}
 use Rattle.dh_table.specs.declared.texts.Look.{Look}
 use Rattle.dh_table.specs.Inside.Reading.{seen_of}
 use Rattle.dh_table.specs.States.{look_of}

@@ -1,5 +1,5 @@
 use Rattle.dh_table.specs.States.{key_named}
-use Rattle.dh_syntax.specs.Imports.Resolver.{stage}
+use Rattle.dh_imports.specs.Resolver.{stage}
 use Rattle.dh_demand.specs.Results.{ask_of}
 use Rattle.dh_table.specs.Inside.Reading.{record_by}
 use Rattle.dh_table.specs.States.{rows_of}

@@ -1,5 +1,5 @@
 use Rattle.std.specs.Prelude.{◌≡◌, ◌<◌, length, map, reverse, take}
-use Rattle.dh_syntax.specs.Imports.Resolver.{least_back_to}
+use Rattle.dh_imports.specs.Resolver.{least_back_to}
 use Rattle.dh_table.specs.States.{key_named}
 use Rattle.dh_table.proofs.loops.least_back.Given as goal
 

@@ -2,7 +2,7 @@ use Rattle.std.proofs.Common.{◌≡◌, ap, sym, ◌∙◌, subst as along, ari
 use Rattle.std.specs.Prelude.{◌<◌, ℕ, true, false, [], ◌∷◌, length, map, reverse}
 use Rattle.std.proofs.lemmas.List.{length-replicate, length-set}
 use Rattle.std.proofs.lemmas.List.Elements.{All-nil, All-same}
-use Rattle.dh_syntax.specs.Imports.Resolver.{is_in}
+use Rattle.dh_imports.specs.Resolver.{is_in}
 use Rattle.dh_import_laws.proofs.Graph.{Trail, here, begins, follows, one_more}
 use Rattle.dh_table.specs.Inside.Searching.{is_set, unseen}
 use Rattle.dh_table.specs.States.{key_named}

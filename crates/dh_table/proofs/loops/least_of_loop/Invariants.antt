@@ -1,6 +1,6 @@
 use Rattle.std.specs.Prelude.{◌≡◌, ◌+◌, ◌<◌, ◌≤◌, ℕ, true, All, length, map, reverse, vec_len, vec_capacity}
-use Rattle.dh_syntax.specs.Imports.Machine.{State}
-use Rattle.dh_syntax.specs.Imports.Resolver.{is_in}
+use Rattle.dh_imports.specs.Machine.{State}
+use Rattle.dh_imports.specs.Resolver.{is_in}
 use Rattle.dh_import_laws.proofs.Graph.{Trail, Way}
 use Rattle.dh_table.specs.Inside.Searching.{IsStuck, is_set, unseen}
 use Rattle.dh_table.specs.States.{key_named}

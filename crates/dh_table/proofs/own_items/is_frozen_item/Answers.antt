@@ -1,7 +1,7 @@
 use Rattle.std.proofs.Common.{ap, sym, ◌∙◌}
 use Rattle.std.specs.Option.{option_copied}
 use Rattle.dh_syntax.specs.Imports.Keys.{bare}
-use Rattle.dh_syntax.specs.Imports.Resolver.{of_bare, of_plan, plan_look}
+use Rattle.dh_imports.specs.Resolver.{of_bare, of_plan, plan_look}
 use Rattle.dh_demand.specs.Results.{ask_of}
 use Rattle.dh_table.specs.Inside.Equal.{are_due_on_one}
 use Rattle.dh_table.specs.Items.{stage_of_item}

@@ -2,7 +2,7 @@ use Rattle.std.proofs.Common.{◌≡◌, List, take, ℕ, ◌<◌}
 use Rattle.std.specs.Prelude.{map, reverse, All, Contains, IfSome}
 use Rattle.std.specs.Option.{option_map}
 use Rattle.dh_syntax.specs.Expressions.Numbers.{eq}
-use Rattle.dh_syntax.specs.Imports.Records.{lookup}
+use Rattle.dh_imports.specs.Records.{lookup}
 use Rattle.dh_table.specs.declared.steps.Flight.{Flight}
 use Rattle.dh_table.specs.declared.steps.Job.{Job}
 use Rattle.dh_table.specs.declared.texts.Entrant.{Entrant}

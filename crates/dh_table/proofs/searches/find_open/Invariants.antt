@@ -1,6 +1,6 @@
 use Rattle.std.specs.Prelude.{◌≡◌, length}
 use Rattle.dh_syntax.specs.Expressions.Bridge.{term}
-use Rattle.dh_syntax.specs.Imports.Machine.{State}
+use Rattle.dh_imports.specs.Machine.{State}
 use Rattle.dh_table.specs.Inside.Searching.{HasRoom, IsSearched, Knows, Stands, left_to_see, no_hole}
 use Rattle.dh_table.proofs.searches.find_open.Given as goal
 

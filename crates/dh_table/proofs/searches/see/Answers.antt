@@ -1,7 +1,7 @@
 use Rattle.std.proofs.Common.{◌<◌, ◌≤◌, ◌∙◌, ap, sym, ℕ, length, arith, inl, inr, subst as along}
 use Rattle.std.specs.Prelude.{List, slice_set}
-use Rattle.dh_syntax.specs.Imports.Machine.{leads_by}
-use Rattle.dh_syntax.specs.Imports.Resolver.{plan}
+use Rattle.dh_imports.specs.Machine.{leads_by}
+use Rattle.dh_imports.specs.Resolver.{plan}
 use Rattle.dh_demand.specs.Results.{ask_of}
 use Rattle.dh_table.specs.Inside.Reading.{record_by}
 use Rattle.dh_table.specs.Inside.Searching.{AreKnown, IsSearched, left_to_see, no_hole}

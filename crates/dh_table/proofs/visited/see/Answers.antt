@@ -1,6 +1,6 @@
 use Rattle.dh_table.specs.Inside.Reading.{record_by}
 use Rattle.dh_table.specs.States.{rows_of, key_named}
-use Rattle.dh_syntax.specs.Imports.Resolver.{plan}
+use Rattle.dh_imports.specs.Resolver.{plan}
 use Rattle.dh_table.proofs.Visiting.{asks_numbered, visits_more}
 use Rattle.dh_table.proofs.visited.see.Goals as goal
 

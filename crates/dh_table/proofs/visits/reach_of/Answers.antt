@@ -2,7 +2,7 @@ use Rattle.std.proofs.Common.{sym, inl, inr, subst as along}
 use Rattle.std.specs.Prelude.{Some}
 use Rattle.dh_syntax.specs.declared.locations.Key.{Key}
 use Rattle.dh_syntax.specs.Expressions.Bridge.{term}
-use Rattle.dh_syntax.specs.Imports.Walk.{walk}
+use Rattle.dh_imports.specs.Walk.{walk}
 use Rattle.dh_demand.specs.declared.ends.Next.TheVariants as next
 use Rattle.dh_demand.specs.Nexts.{IsNext}
 use Rattle.dh_demand.specs.Results.{ask_of}

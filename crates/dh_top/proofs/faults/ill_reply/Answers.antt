@@ -2,7 +2,7 @@ use Rattle.std.proofs.Common.{◌≡◌, refl, ap, ◌∙◌, subst}
 use Rattle.dh_syntax.specs.Expressions.Bridge.{term}
 use Rattle.dh_places.specs.Spans.{spans_of}
 use Rattle.dh_top.proofs.PlacedReplies.{told_at}
-use Rattle.dh_top.proofs.RunLaws.{not_both}
+use Rattle.dh_top.proofs.Spelled.{not_both}
 use Rattle.dh_top.proofs.faults.ill_reply.Goals as goal
 
 pub returns-in-Ok : goal.returns-in-Ok

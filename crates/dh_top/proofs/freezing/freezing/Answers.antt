@@ -1,6 +1,6 @@
 use Rattle.std.proofs.Common.{sym, ap, ◌∙◌, subst}
-use Rattle.dh_syntax.specs.Command.Answer.{answer as answer_of}
-use Rattle.dh_syntax.specs.Imports.Machine.{outcome_of}
+use Rattle.dh_command.specs.Responses.{answer as answer_of}
+use Rattle.dh_imports.specs.Machine.{outcome_of}
 use Rattle.dh_syntax.specs.Text.Offsets.{SpellsWith}
 use Rattle.dh_table.specs.States.{state_of}
 use Rattle.dh_top.proofs.freezing.freezing.Goals as goal

@@ -1,7 +1,7 @@
 use Rattle.std.proofs.Common.{subst}
 use Rattle.dh_syntax.specs.Expressions.Bridge.{term}
 use Rattle.dh_syntax.specs.Text.Offsets.{SpellsWith}
-use Rattle.dh_top.proofs.RunLaws.{not_both, same_term}
+use Rattle.dh_top.proofs.Spelled.{not_both, same_term}
 use Rattle.dh_top.proofs.freezing.import_offsets.Goals as goal
 
 pub returns-in-Ok : goal.returns-in-Ok

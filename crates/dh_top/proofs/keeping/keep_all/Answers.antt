@@ -1,11 +1,11 @@
-use Rattle.std.proofs.Common.{[], refl, rules, arith, length, ◌≤◌}
+use Rattle.std.proofs.Common.{[], refl, ◌∙◌, rules, arith, length, ◌≤◌}
 use Rattle.std.proofs.lemmas.List.Elements.{All-rest}
 use Rattle.dh_syntax.specs.Limits.{most_entry_bytes}
 use Rattle.dh_top.proofs.Filing.{files_nothing, part_of, one_done, all_done, on_err_of}
 use Rattle.dh_top.proofs.keeping.keep_all.Goals as goal
 
 pub loop-entry-init : goal.loop-entry-init
-loop-entry-init g c = record { small = c.requires; counted = omega arith; kept = ([], refl, files_nothing _ _) }
+loop-entry-init g c = record { small = c.requires; counted = omega arith; asked = refl; kept = ([], refl, files_nothing _ _) }
 
 pub returns-in_err-keep_entry-clause-part : goal.returns-in_err-keep_entry-clause-part
 returns-in_err-keep_entry-clause-part g c =
@@ -20,5 +20,6 @@ loop-entry-preserved g c =
     record {
       small = All-rest (λ e. length e.bytes ≤ most_entry_bytes) c.in-Some.entry.now c.in-Some.rest.now c.loop-entry.left.now split c.loop-entry.invariant.small;
       counted = omega (arith, before, up);
+      asked = c.keep_entry.ensures.asked ∙ c.loop-entry.invariant.asked;
       kept = one_done _ _ _ _ _ _ so_far.0 c.loop-entry.left.now c.args.entries.now c.in-Some.entry.now c.in-Some.rest.now so_far.1 split up so_far.2 c.in_ok-keep_entry.ensures.kept;
     }

@@ -10,6 +10,7 @@ abbrev pub invariant-loop-entry : goal.invariant-loop-entry
 invariant-loop-entry g l = record {
   small : All (λ e. length e.bytes ≤ most_entry_bytes) l.left;
   counted : g.D.Desk.faults l.initial.desk ≤ g.D.Desk.faults l.desk;
+  asked : g.D.Desk.asked l.desk ≡ g.D.Desk.asked l.initial.desk;
   kept : (done : List CacheEntry) × (done ++ l.left ≡ l.fn.entries)
       × FilesAll (g.D.Desk.faults l.initial.desk) (g.D.Desk.faults l.desk) (g.D.Desk.filed l.initial.desk) (g.D.Desk.filed l.desk) (map pair_of done);
 }

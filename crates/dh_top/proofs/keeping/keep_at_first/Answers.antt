@@ -1,4 +1,4 @@
-use Rattle.dh_top.proofs.Filing.{first_set, on_ok_map, on_err_map}
+use Rattle.dh_top.proofs.Filing.{first_same, first_set, on_ok_map, on_err_map}
 use Rattle.dh_top.proofs.keeping.keep_at_first.Goals as goal
 
 pub returns-clause-kept : goal.returns-clause-kept
@@ -8,3 +8,6 @@ returns-clause-kept g c =
 pub returns-clause-part : goal.returns-clause-part
 returns-clause-part g c =
     on_err_map c.keep_all.result (λ k. first_set _ c.args.desks.now c.index-desks-0.result c.keep_all.new.desk c.requires.some (c.keep_all.ensures.counted, k)) c.keep_all.ensures.part
+
+pub returns-clause-asked : goal.returns-clause-asked
+returns-clause-asked g c = first_same (λ d. g.D.Desk.asked d) c.args.desks.now c.index-desks-0.result c.keep_all.new.desk c.requires.some c.keep_all.ensures.asked

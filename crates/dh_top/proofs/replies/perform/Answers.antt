@@ -4,14 +4,14 @@ use Rattle.dh_top.proofs.Encodings.{performs_apart, performs_command, performs_u
 use Rattle.dh_top.proofs.replies.perform.Goals as goal
 
 pub returns-then-not-reads-clause-performs : goal.returns-then-not-reads-clause-performs
-returns-then-not-reads-clause-performs g c = performs_apart c.args.command _ _ _ _ c.answer.result (sym c.reads.ensures ∙ c.if-not-reads.true) c.answer.ensures.answers
+returns-then-not-reads-clause-performs g c = performs_apart c.args.command _ _ _ _ _ c.answer.result (sym c.reads.ensures ∙ c.if-not-reads.true) c.answer.ensures.answers
 
 pub returns-then-not-reads-clause-lacks : goal.returns-then-not-reads-clause-lacks
 returns-then-not-reads-clause-lacks g c = lacks_apart c.args.command _ _ _ c.answer.result (sym c.reads.ensures ∙ c.if-not-reads.true) c.answer.ensures.lacks
 
 pub returns-in-Ok-clause-performs : goal.returns-in-Ok-clause-performs
 returns-in-Ok-clause-performs g c =
-    performs_command c.args.command most_read _ _ _ _ _ _ _ c.answer-in-Ok.result refl (sym c.reads.ensures ∙ c.if-not-reads.false) c.in-Ok.ensures.taken c.in-Ok.ensures.all c.in-Ok.ensures.quiet
+    performs_command c.args.command _ most_read _ _ _ _ _ _ _ c.answer-in-Ok.result refl (sym c.reads.ensures ∙ c.if-not-reads.false) c.in-Ok.ensures.taken c.in-Ok.ensures.all c.in-Ok.ensures.quiet
     c.deref.ensures.value c.answer-in-Ok.ensures.answers
 
 pub returns-in-Ok-clause-lacks : goal.returns-in-Ok-clause-lacks
@@ -20,7 +20,7 @@ returns-in-Ok-clause-lacks g c =
 
 pub returns-in-Err-Failed-clause-performs : goal.returns-in-Err-Failed-clause-performs
 returns-in-Err-Failed-clause-performs g c =
-    performs_unread c.args.command _ _ c.unreadable.result (c.read_input.ensures.failed (c.in-Err-Failed.is ∙ ap Err c.in-Err-Failed.field-0-is)) (refl, refl) c.unreadable.ensures
+    performs_unread c.args.command _ _ _ c.unreadable.result (c.read_input.ensures.failed (c.in-Err-Failed.is ∙ ap Err c.in-Err-Failed.field-0-is)) (refl, refl, refl) c.unreadable.ensures
 
 pub returns-in-Err-Failed-clause-lacks : goal.returns-in-Err-Failed-clause-lacks
 returns-in-Err-Failed-clause-lacks g c = lacks_before c.args.command _ _ c.unreadable.result refl

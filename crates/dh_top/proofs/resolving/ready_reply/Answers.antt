@@ -1,6 +1,6 @@
 use Rattle.dh_syntax.specs.Expressions.Bridge.{term}
-use Rattle.dh_syntax.specs.Imports.Machine.{outcome_of}
-use Rattle.dh_syntax.specs.Imports.Readings.{root_reading}
+use Rattle.dh_imports.specs.Machine.{outcome_of}
+use Rattle.dh_imports.specs.Readings.{root_reading}
 use Rattle.dh_table.specs.States.{state_of}
 use Rattle.dh_top.proofs.TypedReplies.{frozen_any, itself_any, typed_any, types_of}
 use Rattle.dh_top.proofs.resolving.ready_reply.Goals as goal

@@ -7,7 +7,7 @@ use Rattle.dh_table.specs.Kept.{pair_of}
 use Rattle.dh_top.specs.Outside.{first_of, files_none}
 use Rattle.dh_top.proofs.Closing.{closed}
 use Rattle.dh_top.proofs.Encodings.{part_none}
-use Rattle.dh_top.proofs.Filing.{ok_seen, err_seen}
+use Rattle.dh_top.proofs.Filing.{ok_seen, err_seen, same_seen}
 use Rattle.dh_top.proofs.Resolutions.{answered, answered_none, too_many_answered}
 use Rattle.dh_top.proofs.Using.{uses_keeping, uses_workers}
 use Rattle.dh_top.proofs.resolving.spelled_reply.Goals as goal
@@ -24,43 +24,49 @@ answered_reply-requires-clause-closed g c =
 
 pub returns-in-Ok-clause-answers : goal.returns-in-Ok-clause-answers
 returns-in-Ok-clause-answers g c =
-    answered g.W.World.told g.W.World.shelved (λ d. g.D.Desk.faults d) (λ d. g.D.Desk.filed d) _ _ _ c.args.command.verb c.args.text.now (term c.args.e) c.in-Ok.answered.table c.in-Ok.answered.ended
+    answered g.W.World.told g.W.World.shelved (λ d. g.D.Desk.asked d) (λ d. g.D.Desk.faults d) (λ d. g.D.Desk.filed d) _ _ _ c.args.command.verb c.args.text.now (term c.args.e) c.in-Ok.answered.table c.in-Ok.answered.ended
     (map pair_of c.in-Ok.answered.keeps)
     (record {
       root_is = c.in-Ok.ensures.root;
       texts = c.tells.ensures.texts;
       looks = c.tells.ensures.looks;
       replayed = c.is_replayed.ensures;
+      asks = c.in-Ok.ensures.ends.asks;
       fails = c.in-Ok.ensures.ends.fails;
       fell = c.in-Ok.ensures.counted;
       filed_is = c.resolve_all.ensures.filed;
       closed = closed c.in-Ok.answered.table c.in-Ok.answered.ended (term c.args.e) c.in-Ok.ensures.root c.in-Ok.ensures.ends.decided c.in-Ok.ensures.ended c.in-Ok.ensures.resolved c.in-Ok.ensures.fits;
       keeps = c.in-Ok.ensures.keeps;
     })
+    (same_seen (λ d. g.D.Desk.asked d) c.as_mut_slice.result.now _ c.answered_reply.new.desks _ _ c.as_mut_slice.ensures.value
+    (omega (arith, c.as_mut_slice.ensures.len, ap length c.as_mut_slice.ensures.value)) c.answered_reply.ensures.asked)
     c.requires.resolves c.requires.spelled c.answered_reply.result
     (ok_seen _ c.as_mut_slice.result.now _ c.answered_reply.new.desks _ _ c.answered_reply.result c.as_mut_slice.ensures.value (omega (arith, c.as_mut_slice.ensures.len, ap length c.as_mut_slice.ensures.value)) c.answered_reply.ensures.kept) c.answered_reply.ensures.does
 
 pub returns-in-Ok-clause-lacks : goal.returns-in-Ok-clause-lacks
 returns-in-Ok-clause-lacks g c =
-    answered_none g.W.World.told g.W.World.shelved (λ d. g.D.Desk.faults d) (λ d. g.D.Desk.filed d) _ _ _ c.args.command.verb c.args.text.now (term c.args.e) c.in-Ok.answered.table c.in-Ok.answered.ended
+    answered_none g.W.World.told g.W.World.shelved (λ d. g.D.Desk.asked d) (λ d. g.D.Desk.faults d) (λ d. g.D.Desk.filed d) _ _ _ c.args.command.verb c.args.text.now (term c.args.e) c.in-Ok.answered.table c.in-Ok.answered.ended
     (map pair_of c.in-Ok.answered.keeps)
     (record {
       root_is = c.in-Ok.ensures.root;
       texts = c.tells.ensures.texts;
       looks = c.tells.ensures.looks;
       replayed = c.is_replayed.ensures;
+      asks = c.in-Ok.ensures.ends.asks;
       fails = c.in-Ok.ensures.ends.fails;
       fell = c.in-Ok.ensures.counted;
       filed_is = c.resolve_all.ensures.filed;
       closed = closed c.in-Ok.answered.table c.in-Ok.answered.ended (term c.args.e) c.in-Ok.ensures.root c.in-Ok.ensures.ends.decided c.in-Ok.ensures.ended c.in-Ok.ensures.resolved c.in-Ok.ensures.fits;
       keeps = c.in-Ok.ensures.keeps;
     })
+    (same_seen (λ d. g.D.Desk.asked d) c.as_mut_slice.result.now _ c.answered_reply.new.desks _ _ c.as_mut_slice.ensures.value
+    (omega (arith, c.as_mut_slice.ensures.len, ap length c.as_mut_slice.ensures.value)) c.answered_reply.ensures.asked)
     c.requires.resolves c.requires.spelled c.answered_reply.result
     (err_seen _ c.as_mut_slice.result.now _ c.answered_reply.new.desks _ _ c.answered_reply.result c.as_mut_slice.ensures.value (omega (arith, c.as_mut_slice.ensures.len, ap length c.as_mut_slice.ensures.value)) c.answered_reply.ensures.part)
 
 pub returns-in-Err-TooMany-clause-answers : goal.returns-in-Err-TooMany-clause-answers
 returns-in-Err-TooMany-clause-answers g c =
-    too_many_answered c.why_reply.result c.args.command.verb c.args.text.now (term c.args.e) _ _ refl c.requires.resolves c.requires.spelled (ap (first_of None) c.resolve_all.ensures.filed)
+    too_many_answered c.why_reply.result c.args.command.verb c.args.text.now (term c.args.e) _ _ refl c.requires.resolves c.requires.spelled (ap (first_of None) c.resolve_all.ensures.filed) (ap (map (λ d. g.D.Desk.asked d)) (c.in-Err-TooMany.ensures.alone c.in-Err-TooMany.field-0-is))
     (c.in-Err-TooMany.ensures.too_many c.in-Err-TooMany.field-0-is) c.why_reply.ensures
 
 pub returns-in-Err-TooMany-clause-lacks : goal.returns-in-Err-TooMany-clause-lacks

@@ -1,4 +1,5 @@
 use Rattle.std.proofs.Common.{refl}
+use Rattle.dh_top.proofs.Causes.{caused, told-line}
 use Rattle.dh_top.proofs.RunLaws.{ran_reply, ran_desk, ran_lacking}
 use Rattle.dh_top.proofs.runs.run_dhall.Goals as goal
 
@@ -15,3 +16,15 @@ returns-in-Ok-clause-desk_only g c = ran_desk _ _ _ _ _ c.reply_to.result c.in-O
 
 pub returns-in-Err-clause-runs : goal.returns-in-Err-clause-runs
 returns-in-Err-clause-runs g c = ran_lacking _ _ _ _ _ c.reply_to.result _ _ _ c.deliver-in-Err.result c.in-Err.is c.reply_to.ensures.lacks refl refl c.deliver-in-Err.ensures
+
+pub returns-in-Ok-clause-cause : goal.returns-in-Ok-clause-cause
+returns-in-Ok-clause-cause g c = caused _ _ _ _ _ _ (returns-in-Ok-clause-runs g c)
+
+pub returns-in-Ok-clause-one_line : goal.returns-in-Ok-clause-one_line
+returns-in-Ok-clause-one_line g c = told-line _ _ _ _ _ _ (returns-in-Ok-clause-runs g c)
+
+pub returns-in-Err-clause-cause : goal.returns-in-Err-clause-cause
+returns-in-Err-clause-cause g c = caused _ _ _ _ _ _ (returns-in-Err-clause-runs g c)
+
+pub returns-in-Err-clause-one_line : goal.returns-in-Err-clause-one_line
+returns-in-Err-clause-one_line g c = told-line _ _ _ _ _ _ (returns-in-Err-clause-runs g c)

@@ -1,5 +1,5 @@
 use Rattle.std.proofs.Common.{ap, ◌∙◌}
-use Rattle.dh_syntax.specs.Command.Answer.{answer as answer_of}
+use Rattle.dh_command.specs.Responses.{answer as answer_of}
 use Rattle.dh_top.proofs.telling.help.Goals as goal
 
 pub returns : goal.returns

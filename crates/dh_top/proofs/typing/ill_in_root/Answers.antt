@@ -1,6 +1,6 @@
 use Rattle.std.proofs.Common.{refl, ◌∙◌}
 use Rattle.dh_syntax.specs.Expressions.Bridge.{term}
-use Rattle.dh_syntax.specs.Imports.Machine.{outcome_of}
+use Rattle.dh_imports.specs.Machine.{outcome_of}
 use Rattle.dh_table.specs.States.{state_of}
 use Rattle.dh_top.proofs.TypedReplies.{refused_in_root}
 use Rattle.dh_top.proofs.typing.ill_in_root.Goals as goal

@@ -1,5 +1,5 @@
 use Rattle.dh_syntax.specs.Expressions.Bridge.{term}
-use Rattle.dh_syntax.specs.declared.verbs.Verb.TheVariants as verbs
+use Rattle.dh_command.specs.declared.verbs.Verb.TheVariants as verbs
 use Rattle.dh_top.proofs.TypedReplies.{type_printed, for_verb}
 use Rattle.dh_top.proofs.typing.typed_reply.Goals as goal
 
@@ -12,3 +12,6 @@ returns-in-Normalize c = for_verb c.normal_reply.result c.args.verb verbs.Normal
 
 pub returns-in-Hash : goal.returns-in-Hash
 returns-in-Hash c = for_verb c.hash_reply.result c.args.verb verbs.Hash (term c.args.e.now) c.in-Hash.is c.hash_reply.ensures
+
+pub returns-in-ToJson : goal.returns-in-ToJson
+returns-in-ToJson c = for_verb c.json_reply.result c.args.verb verbs.ToJson (term c.args.e.now) c.in-ToJson.is c.json_reply.ensures

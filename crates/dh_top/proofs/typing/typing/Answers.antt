@@ -1,8 +1,8 @@
 use Rattle.std.proofs.Common.{[], subst}
 use Rattle.dh_syntax.specs.declared.faults.NormFault.TheVariants as limit
 use Rattle.dh_syntax.specs.Expressions.Bridge.{term}
-use Rattle.dh_syntax.specs.Imports.Machine.{outcome_of}
-use Rattle.dh_syntax.specs.Imports.Readings.{root_reading}
+use Rattle.dh_imports.specs.Machine.{outcome_of}
+use Rattle.dh_imports.specs.Readings.{root_reading}
 use Rattle.dh_syntax.specs.Limits.{whole_purse}
 use Rattle.dh_syntax.specs.Typing.NamedTyping.{IsTypeFault}
 use Rattle.dh_table.specs.States.{state_of}

@@ -1,5 +1,5 @@
 use Rattle.std.proofs.Common.{◌∙◌, ap, sym}
-use Rattle.dh_syntax.specs.Command.Words.{is_count}
+use Rattle.dh_command.specs.Words.{is_count}
 use Rattle.dh_top.proofs.Commands.{unparsed}
 use Rattle.dh_top.proofs.words.workers_of.Goals as goal
 

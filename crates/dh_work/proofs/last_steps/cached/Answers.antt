@@ -1,6 +1,6 @@
 use Rattle.std.proofs.Common.{refl, ap}
 use Rattle.dh_syntax.specs.Expressions.Bridge.{term}
-use Rattle.dh_syntax.specs.declared.outcomes.Origin.TheVariants.{Cached}
+use Rattle.dh_imports.specs.declared.outcomes.Origin.TheVariants.{Cached}
 use Rattle.dh_work.proofs.Comings.{good_plain, same_is_value}
 use Rattle.dh_work.proofs.last_steps.cached.Goals as goal
 

@@ -1,8 +1,8 @@
 use Rattle.std.proofs.Common.{◌∙◌, ap, subst}
 use Rattle.std.proofs.lemmas.Result.{IfOk-weaker}
-use Rattle.dh_syntax.specs.declared.outcomes.Outcome.TheVariants as outcomes
+use Rattle.dh_imports.specs.declared.outcomes.Outcome.TheVariants as outcomes
 use Rattle.dh_syntax.specs.Expressions.Bridge.{term}
-use Rattle.dh_syntax.specs.Imports.LastStep.{text_outcome}
+use Rattle.dh_imports.specs.LastStep.{text_outcome}
 use Rattle.dh_table.specs.Values.{IsFit}
 use Rattle.dh_work.specs.Inside.Coming.{IsCame}
 use Rattle.dh_work.proofs.Comings.{code_item, text_item, location_item, compare_item, entry_item, fault_item}

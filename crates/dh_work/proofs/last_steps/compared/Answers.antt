@@ -1,8 +1,8 @@
 use Rattle.std.proofs.Common.{◌≡◌, ◌∙◌}
 use Rattle.std.proofs.lemmas.Result.{IfOk-weaker}
 use Rattle.dh_syntax.specs.Expressions.Bridge.{term}
-use Rattle.dh_syntax.specs.Imports.LastStep.{compared}
-use Rattle.dh_syntax.specs.Imports.Outcomes.{plain}
+use Rattle.dh_imports.specs.LastStep.{compared}
+use Rattle.dh_imports.specs.Outcomes.{plain}
 use Rattle.dh_work.proofs.Comings.{compared_none}
 use Rattle.dh_work.proofs.last_steps.compared.Goals as goal
 

@@ -1,6 +1,6 @@
 use Rattle.dh_syntax.specs.Expressions.Bridge.{term}
-use Rattle.dh_syntax.specs.Imports.LastStep.{location_value}
-use Rattle.dh_syntax.specs.declared.outcomes.Origin.TheVariants.{Made}
+use Rattle.dh_imports.specs.LastStep.{location_value}
+use Rattle.dh_imports.specs.declared.outcomes.Origin.TheVariants.{Made}
 use Rattle.std.proofs.Common.{refl}
 use Rattle.dh_work.proofs.Comings.{good_plain, location_is_value, same_is_value}
 use Rattle.dh_work.proofs.last_steps.made.Goals as goal

@@ -1,4 +1,4 @@
-use Rattle.dh_syntax.specs.Imports.LastStep.{location_type}
+use Rattle.dh_imports.specs.LastStep.{location_type}
 use Rattle.dh_work.proofs.BuiltNodes.{built_field, part, pushed}
 use Rattle.dh_work.proofs.locations.selected.Goals as goal
 

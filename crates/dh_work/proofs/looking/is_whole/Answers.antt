@@ -1,8 +1,8 @@
 use Rattle.std.specs.Prelude.{◌≡◌, ◌↔◌, [], None, IsTrue}
 use Rattle.std.proofs.lemmas.Result.{IfOk-weaker}
 use Rattle.dh_syntax.specs.Expressions.Bridge.{term}
-use Rattle.dh_syntax.specs.Imports.Records.{IsClosed}
-use Rattle.dh_syntax.specs.Imports.Walk.{keys_of}
+use Rattle.dh_imports.specs.Records.{IsClosed}
+use Rattle.dh_imports.specs.Walk.{keys_of}
 use Rattle.dh_work.proofs.Bringings.{imports_tell, closed_whole}
 use Rattle.dh_work.proofs.looking.is_whole.Goals as goal
 

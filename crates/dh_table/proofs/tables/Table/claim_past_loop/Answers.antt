@@ -1,9 +1,9 @@
 use Rattle.std.proofs.Common.{ap, sym, ◌∙◌, subst as along}
 use Rattle.std.specs.Prelude.{◌≡◌, [], ◌∷◌, Some, None, IsSome, length, suc}
 use Rattle.std.proofs.lemmas.Bool.{false≢true}
-use Rattle.dh_syntax.specs.Imports.Machine as machine
-use Rattle.dh_syntax.specs.Imports.Machine.{State, May, effect}
-use Rattle.dh_syntax.specs.Imports.Replay.{root_end}
+use Rattle.dh_imports.specs.Machine as machine
+use Rattle.dh_imports.specs.Machine.{State, May, effect}
+use Rattle.dh_imports.specs.Replay.{root_end}
 use Rattle.dh_table.specs.declared.steps.Step.TheVariants as steps
 use Rattle.dh_table.specs.Calls.{Adds}
 use Rattle.dh_table.specs.Inside.Searching.{IsJob}

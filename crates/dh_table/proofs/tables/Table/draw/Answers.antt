@@ -1,8 +1,8 @@
 use Rattle.std.proofs.Common.{rules, ◌≡◌, ◌+◌, ◌<◌, suc, length, refl, sym, arith, append-nil, subst as along}
 use Rattle.std.specs.Prelude.{map}
 use Rattle.std.proofs.lemmas.Grind.{common_steps}
-use Rattle.dh_syntax.specs.Imports.Machine as machine
-use Rattle.dh_syntax.specs.Imports.Machine.{IsOpen}
+use Rattle.dh_imports.specs.Machine as machine
+use Rattle.dh_imports.specs.Machine.{IsOpen}
 use Rattle.dh_table.specs.declared.steps.Flight.{Flight}
 use Rattle.dh_table.specs.declared.steps.Job.{Job}
 use Rattle.dh_table.specs.States.{IsFrozenLook, state_of, task_of, news_of}

@@ -1,7 +1,7 @@
 use Rattle.std.proofs.Common.{refl, sym, subst as along}
 use Rattle.std.specs.Prelude.{◌≡◌}
-use Rattle.dh_syntax.specs.Imports.Machine.{State, root_walk}
-use Rattle.dh_syntax.specs.Imports.Walk.{Needs}
+use Rattle.dh_imports.specs.Machine.{State, root_walk}
+use Rattle.dh_imports.specs.Walk.{Needs}
 use Rattle.dh_import_laws.proofs.Progress.{root_wanted}
 use Rattle.dh_table.specs.Inside.Searching.{IsLoop, IsStuck, Stands}
 use Rattle.dh_table.specs.Shown.{Shown}

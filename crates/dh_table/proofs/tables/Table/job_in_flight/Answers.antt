@@ -4,8 +4,8 @@ use Rattle.std.specs.Option.{option_map}
 use Rattle.std.proofs.lemmas.List.Elements.{All-contains}
 use Rattle.dh_laws.proofs.KeyOrder.{none-some}
 use Rattle.dh_syntax.specs.Expressions.Numbers.{eq}
-use Rattle.dh_syntax.specs.Imports.Machine.{Task, InFlight}
-use Rattle.dh_syntax.specs.Imports.Records.{lookup}
+use Rattle.dh_imports.specs.Machine.{Task, InFlight}
+use Rattle.dh_imports.specs.Records.{lookup}
 use Rattle.dh_table.specs.declared.steps.Flight.{Flight}
 use Rattle.dh_table.specs.Shown.{Shown}
 use Rattle.dh_table.specs.States.{IsFrozenLook, flight_of, state_of, task_of}

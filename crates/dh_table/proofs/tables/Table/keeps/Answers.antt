@@ -1,10 +1,10 @@
 use Rattle.std.specs.Prelude.{◌≡◌, ℕ, [], false, true, map, None}
 use Rattle.std.proofs.Common.{ap, subst as along}
 use Rattle.std.proofs.lemmas.Result.{IfOk-weaker}
-use Rattle.dh_syntax.specs.Imports.Keeps.{AreKeeps}
-use Rattle.dh_syntax.specs.Imports.Machine.{State, root_walk}
-use Rattle.dh_syntax.specs.Imports.Replay.{has_too_many, root_end}
-use Rattle.dh_syntax.specs.Imports.Resolver.{resolve}
+use Rattle.dh_imports.specs.Keeps.{AreKeeps}
+use Rattle.dh_imports.specs.Machine.{State, root_walk}
+use Rattle.dh_imports.specs.Replay.{has_too_many, root_end}
+use Rattle.dh_imports.specs.Resolver.{resolve}
 use Rattle.dh_table.specs.Kept.{IsKeeping, pair_of}
 use Rattle.dh_table.specs.Shown.{Shown}
 use Rattle.dh_table.specs.States.{rows_of, state_of}

@@ -1,6 +1,6 @@
 use Rattle.std.proofs.Common.{ap, ◌∙◌}
 use Rattle.std.specs.Prelude.{length}
-use Rattle.dh_syntax.specs.Imports.Replay.{distinct, keys}
+use Rattle.dh_imports.specs.Replay.{distinct, keys}
 use Rattle.dh_table.specs.Shown.{Shown}
 use Rattle.dh_table.specs.States.{state_of}
 use Rattle.dh_table.proofs.RootEnds.{known_count}

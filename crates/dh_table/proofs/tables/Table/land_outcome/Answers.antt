@@ -3,10 +3,10 @@ use Rattle.std.specs.Prelude.{ℕ, ◌≤◌, ◌+◌, if◌then◌else◌, map,
 use Rattle.std.proofs.lemmas.Fn.{filter_same}
 use Rattle.dh_syntax.specs.declared.locations.Key.{Key}
 use Rattle.dh_syntax.specs.Expressions.Bridge.{term}
-use Rattle.dh_syntax.specs.Imports.Machine as machine
-use Rattle.dh_syntax.specs.Imports.Machine.{InFlight, IsDone, IsInTime, May, outcome_of}
-use Rattle.dh_syntax.specs.Imports.Outcomes.{plain}
-use Rattle.dh_syntax.specs.Imports.Records.{limit_at}
+use Rattle.dh_imports.specs.Machine as machine
+use Rattle.dh_imports.specs.Machine.{InFlight, IsDone, IsInTime, May, outcome_of}
+use Rattle.dh_imports.specs.Outcomes.{plain}
+use Rattle.dh_imports.specs.Records.{limit_at}
 use Rattle.dh_demand.specs.Results.{ask_of}
 use Rattle.dh_table.specs.declared.news.News.TheVariants as news
 use Rattle.dh_table.specs.declared.steps.Flight.{Flight}

@@ -3,8 +3,8 @@ use Rattle.std.specs.Prelude.{ℕ, List, map, filter, All, Option, Some, None, M
 use Rattle.std.proofs.lemmas.Fn.{filter_same}
 use Rattle.std.proofs.lemmas.Grind.{common_steps}
 use Rattle.dh_syntax.specs.Imports.Keys.{loc_rank}
-use Rattle.dh_syntax.specs.Imports.Machine as machine
-use Rattle.dh_syntax.specs.Imports.Machine.{InFlight}
+use Rattle.dh_imports.specs.Machine as machine
+use Rattle.dh_imports.specs.Machine.{InFlight}
 use Rattle.dh_demand.specs.Results.{ask_of}
 use Rattle.dh_table.specs.declared.news.News.{News}
 use Rattle.dh_table.specs.declared.news.News.TheVariants as news

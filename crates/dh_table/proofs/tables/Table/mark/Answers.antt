@@ -3,13 +3,13 @@ use Rattle.std.specs.Prelude.{ℕ, All, Some, None, map, slice_index_or}
 use Rattle.std.proofs.lemmas.Bool.{false≢true}
 use Rattle.std.proofs.lemmas.Grind.{common_steps}
 use Rattle.std.proofs.lemmas.List.Elements.{All-get_or}
-use Rattle.dh_syntax.specs.declared.outcomes.Outcome as program
-use Rattle.dh_syntax.specs.declared.outcomes.Outcome.TheVariants.{Bad}
-use Rattle.dh_syntax.specs.declared.outcomes.Why.TheVariants.{Cycle}
+use Rattle.dh_imports.specs.declared.outcomes.Outcome as program
+use Rattle.dh_imports.specs.declared.outcomes.Outcome.TheVariants.{Bad}
+use Rattle.dh_imports.specs.declared.outcomes.Why.TheVariants.{Cycle}
 use Rattle.dh_syntax.specs.Expressions.Bridge.{term}
-use Rattle.dh_syntax.specs.Imports.Machine as machine
-use Rattle.dh_syntax.specs.Imports.Machine.{May, outcome_of, with_outcome}
-use Rattle.dh_syntax.specs.Imports.Outcomes.{plain}
+use Rattle.dh_imports.specs.Machine as machine
+use Rattle.dh_imports.specs.Machine.{May, outcome_of, with_outcome}
+use Rattle.dh_imports.specs.Outcomes.{plain}
 use Rattle.dh_demand.specs.Results.{ask_of}
 use Rattle.dh_table.specs.declared.steps.Flight.{Flight}
 use Rattle.dh_table.specs.declared.steps.Job.{Job}

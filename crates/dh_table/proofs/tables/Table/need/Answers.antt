@@ -1,9 +1,9 @@
 use Rattle.std.proofs.Common.{ap, sym, ◌∙◌, refl, subst as along}
 use Rattle.std.specs.Prelude.{◌≡◌, false, None, is_some, IsSome}
 use Rattle.std.proofs.lemmas.Bool.{false≢true}
-use Rattle.dh_syntax.specs.Imports.Machine.{root_walk}
-use Rattle.dh_syntax.specs.Imports.Replay.{has_too_many, root_end}
-use Rattle.dh_syntax.specs.Imports.Walk.{Needs}
+use Rattle.dh_imports.specs.Machine.{root_walk}
+use Rattle.dh_imports.specs.Replay.{has_too_many, root_end}
+use Rattle.dh_imports.specs.Walk.{Needs}
 use Rattle.dh_table.specs.Shown.{Shown}
 use Rattle.dh_table.specs.States.{rows_of, state_of}
 use Rattle.dh_table.specs.Tables.{view_of}

@@ -3,9 +3,9 @@ use Rattle.std.specs.Prelude.{ℕ, List, ◌<◌, [], None, Option, MatchOption,
 use Rattle.std.proofs.lemmas.List.Elements.{All-nil, All-same}
 use Rattle.std.proofs.lemmas.Bool.{false≢true}
 use Rattle.std.proofs.lemmas.Grind.{common_steps}
-use Rattle.dh_syntax.specs.Imports.Machine.{outcome_of}
+use Rattle.dh_imports.specs.Machine.{outcome_of}
 use Rattle.dh_syntax.specs.Expressions.Bridge.{term}
-use Rattle.dh_syntax.specs.Imports.Walk.{keys_of}
+use Rattle.dh_imports.specs.Walk.{keys_of}
 use Rattle.dh_syntax.specs.Limits.{most_keys}
 use Rattle.dh_demand.specs.declared.scans.Edge.{Edge}
 use Rattle.dh_demand.specs.declared.scans.Scan.{Scan}

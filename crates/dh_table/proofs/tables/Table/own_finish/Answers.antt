@@ -1,8 +1,8 @@
 use Rattle.std.proofs.Common.{◌≡◌, ap, sym, ◌∙◌, refl, subst as along}
 use Rattle.std.proofs.lemmas.Bool.{false≢true}
-use Rattle.dh_syntax.specs.Imports.Machine as machine
-use Rattle.dh_syntax.specs.Imports.Machine.{stage_of}
-use Rattle.dh_syntax.specs.Imports.Resolver.{stage}
+use Rattle.dh_imports.specs.Machine as machine
+use Rattle.dh_imports.specs.Machine.{stage_of}
+use Rattle.dh_imports.specs.Resolver.{stage}
 use Rattle.dh_demand.specs.Results.{ask_of}
 use Rattle.dh_table.specs.Inside.Equal.{are_due_on_one}
 use Rattle.dh_table.specs.Inside.Reading.{record_by}

@@ -1,10 +1,10 @@
 use Rattle.std.proofs.Common.{rules, ◌≡◌, ◌∙◌, Some, Ok, map, reverse, sym, ap, subst as along}
 use Rattle.dh_syntax.specs.Expressions.Bridge.{term}
 use Rattle.dh_syntax.specs.Expressions.SameTree.{loc_eq}
-use Rattle.dh_syntax.specs.Imports.Machine.{outcome_of}
-use Rattle.dh_syntax.specs.Imports.Records.{lookup, text_at}
-use Rattle.dh_syntax.specs.Imports.TextPaths.{text_path}
-use Rattle.dh_syntax.specs.Imports.Walk.{Ask}
+use Rattle.dh_imports.specs.Machine.{outcome_of}
+use Rattle.dh_imports.specs.Records.{lookup, text_at}
+use Rattle.dh_imports.specs.TextPaths.{text_path}
+use Rattle.dh_imports.specs.Walk.{Ask}
 use Rattle.dh_demand.specs.Results.{ask_of}
 use Rattle.dh_demand.specs.Scans.{text_key}
 use Rattle.dh_laws.proofs.KeyOrder.{some-equal}

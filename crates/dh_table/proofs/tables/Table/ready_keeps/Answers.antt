@@ -2,10 +2,10 @@ use Rattle.std.specs.Prelude.{◌≡◌, ℕ, [], length, map, None}
 use Rattle.std.proofs.Common.{ap, sym, ◌∙◌, subst as along}
 use Rattle.std.proofs.lemmas.Result.{IfOk-weaker}
 use Rattle.dh_syntax.specs.Expressions.Bridge.{term}
-use Rattle.dh_syntax.specs.Imports.Keeps.{AreKeeps}
-use Rattle.dh_syntax.specs.Imports.Machine.{outcome_of, root_walk}
-use Rattle.dh_syntax.specs.Imports.Resolver.{resolve}
-use Rattle.dh_syntax.specs.Imports.Walk.{Ready, walk}
+use Rattle.dh_imports.specs.Keeps.{AreKeeps}
+use Rattle.dh_imports.specs.Machine.{outcome_of, root_walk}
+use Rattle.dh_imports.specs.Resolver.{resolve}
+use Rattle.dh_imports.specs.Walk.{Ready, walk}
 use Rattle.dh_table.specs.Inside.Keeping.{AreVisited, AreLeast, AreEntries}
 use Rattle.dh_table.specs.Inside.Reading.{record_by}
 use Rattle.dh_table.specs.Kept.{pair_of}

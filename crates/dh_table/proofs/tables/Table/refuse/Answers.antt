@@ -1,7 +1,7 @@
 use Rattle.std.proofs.Common.{sym, refl, arith, length, subst as along}
 use Rattle.std.proofs.lemmas.Grind.{common_steps}
-use Rattle.dh_syntax.specs.Imports.Machine as machine
-use Rattle.dh_syntax.specs.Imports.Machine.{IsInTime}
+use Rattle.dh_imports.specs.Machine as machine
+use Rattle.dh_imports.specs.Machine.{IsInTime}
 use Rattle.dh_table.specs.States.{state_of, news_of, step_by}
 use Rattle.dh_table.specs.Tables.{IsStepNamed, view_of}
 use Rattle.dh_table.specs.declared.steps.Step.TheVariants as steps

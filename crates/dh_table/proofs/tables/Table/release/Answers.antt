@@ -1,5 +1,5 @@
 use Rattle.std.proofs.Common.{subst as along}
-use Rattle.dh_syntax.specs.Imports.Machine.{Task, InFlight}
+use Rattle.dh_imports.specs.Machine.{Task, InFlight}
 use Rattle.dh_table.specs.States.{state_of}
 use Rattle.dh_table.proofs.Logs.{some_flies}
 use Rattle.dh_table.proofs.tables.Table.release.Goals as goal

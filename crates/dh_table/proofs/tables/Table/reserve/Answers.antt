@@ -1,7 +1,7 @@
 use Rattle.std.proofs.Common.{◌≡◌, ◌<◌, arith, length, sym, subst as along}
 use Rattle.std.specs.Prelude.{ℕ, List, All}
 use Rattle.std.proofs.lemmas.Grind.{common_steps}
-use Rattle.dh_syntax.specs.Imports.Machine.{outcome_of}
+use Rattle.dh_imports.specs.Machine.{outcome_of}
 use Rattle.dh_demand.specs.Results.{ask_of}
 use Rattle.dh_table.specs.declared.steps.Flight.{Flight}
 use Rattle.dh_table.specs.declared.steps.Job.{Job}

@@ -1,7 +1,7 @@
 use Rattle.std.proofs.Common.{◌≡◌, ap, sym, ◌∙◌}
 use Rattle.std.specs.Prelude.{None}
 use Rattle.std.specs.Option.{option_copied}
-use Rattle.dh_syntax.specs.Imports.Machine.{outcome_of}
+use Rattle.dh_imports.specs.Machine.{outcome_of}
 use Rattle.dh_demand.specs.Results.{number_of}
 use Rattle.dh_demand.proofs.Numbers.{within}
 use Rattle.dh_table.specs.Shown.{Shown}

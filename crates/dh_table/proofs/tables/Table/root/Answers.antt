@@ -2,9 +2,9 @@ use Rattle.std.proofs.Common.{◌≡◌, ap, sym, ◌∙◌, None, subst as alon
 use Rattle.std.specs.Prelude.{false, true, is_some}
 use Rattle.std.proofs.lemmas.Bool.{false≢true}
 use Rattle.dh_syntax.specs.Expressions.Bridge.{term}
-use Rattle.dh_syntax.specs.Imports.Machine.{State, outcome_of, root_walk}
-use Rattle.dh_syntax.specs.Imports.Replay.{has_too_many, root_end}
-use Rattle.dh_syntax.specs.Imports.Walk.{Ready, walk}
+use Rattle.dh_imports.specs.Machine.{State, outcome_of, root_walk}
+use Rattle.dh_imports.specs.Replay.{has_too_many, root_end}
+use Rattle.dh_imports.specs.Walk.{Ready, walk}
 use Rattle.dh_demand.specs.declared.ends.Next.TheVariants as next
 use Rattle.dh_demand.specs.Nexts.{IsNext}
 use Rattle.dh_demand.specs.Results.{ask_of}

@@ -1,8 +1,8 @@
 use Rattle.std.proofs.Common.{◌≡◌, ◌∙◌, true, sym, ap, subst as along}
 use Rattle.dh_syntax.specs.Expressions.Bridge.{term}
-use Rattle.dh_syntax.specs.Imports.Freezing.{digests_behind}
-use Rattle.dh_syntax.specs.Imports.Machine.{outcome_of}
-use Rattle.dh_syntax.specs.Imports.Walk.{Ask}
+use Rattle.dh_imports.specs.Freezing.{digests_behind}
+use Rattle.dh_imports.specs.Machine.{outcome_of}
+use Rattle.dh_imports.specs.Walk.{Ask}
 use Rattle.dh_demand.specs.Digests.{digests_at}
 use Rattle.dh_demand.specs.Results.{ask_of}
 use Rattle.dh_table.specs.Shown.{Shown}

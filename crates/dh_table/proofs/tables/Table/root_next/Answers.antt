@@ -1,7 +1,7 @@
 use Rattle.std.proofs.Common.{sym, None, subst as along}
 use Rattle.dh_syntax.specs.Expressions.Bridge.{term}
-use Rattle.dh_syntax.specs.Imports.Machine.{root_walk}
-use Rattle.dh_syntax.specs.Imports.Walk.{Ask, walk}
+use Rattle.dh_imports.specs.Machine.{root_walk}
+use Rattle.dh_imports.specs.Walk.{Ask, walk}
 use Rattle.dh_demand.specs.Nexts.{IsNext}
 use Rattle.dh_demand.specs.Results.{ask_of}
 use Rattle.dh_table.specs.States.{rows_of, state_of}

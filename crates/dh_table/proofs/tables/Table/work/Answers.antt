@@ -1,9 +1,9 @@
 use Rattle.std.proofs.Common.{◌≡◌, ap, sym, ◌∙◌, refl, subst as along}
 use Rattle.dh_syntax.specs.declared.locations.Key.{Key}
 use Rattle.dh_syntax.specs.declared.locations.Loc.{Loc}
-use Rattle.dh_syntax.specs.Imports.Machine as machine
-use Rattle.dh_syntax.specs.Imports.Machine.{IsDue, InFlight, stage_of}
-use Rattle.dh_syntax.specs.Imports.Resolver.{stage}
+use Rattle.dh_imports.specs.Machine as machine
+use Rattle.dh_imports.specs.Machine.{IsDue, InFlight, stage_of}
+use Rattle.dh_imports.specs.Resolver.{stage}
 use Rattle.dh_demand.specs.Results.{ask_of}
 use Rattle.dh_table.specs.Inside.Due.{AreSpelled, IsItem}
 use Rattle.dh_table.specs.Inside.Reading.{record_by}

@@ -1,0 +1,13 @@
+pub mod CalmAsks
+pub mod DishonestExample
+pub mod LicencesMoved
+pub mod SameCode
+pub mod SameLicences
+pub mod SameTrees
+pub mod SameTypings
+pub mod WarmAnswers
+pub mod WarmDigests
+pub mod WarmExample
+pub mod WarmKeys
+pub mod WarmRoots
+pub mod WarmWalks

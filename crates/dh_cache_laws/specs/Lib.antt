@@ -1,0 +1,3 @@
+pub mod SameTyping
+pub mod WarmAnswers
+pub mod WarmCache

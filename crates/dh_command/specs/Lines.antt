@@ -1,0 +1,16 @@
+-- The lines of a run that ends without an answer for another reason than its input, without their line feeds.
+use Rattle.std.specs.Prelude.{ℕ, List, ◌++◌, codes}
+use Rattle.std.specs.Fmt.{decimal}
+
+-- the first word that is wrong, by its number from 1
+abbrev pub usage_line : ℕ → List ℕ
+usage_line k = codes "usage: word " ++ decimal k
+
+abbrev pub read_line : List ℕ
+read_line = codes "read failed"
+
+abbrev pub write_line : List ℕ
+write_line = codes "write failed"
+
+abbrev pub memory_line : List ℕ
+memory_line = codes "out of memory"

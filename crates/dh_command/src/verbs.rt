@@ -1,0 +1,57 @@
+//! The commands of the command line.
+
+ghost use Rattle.std.specs.Prelude.{◌≡◌};
+ghost use Rattle.dh_command.specs.Words.{most_operands, reads};
+
+use dh_steps::MOST_PLACES;
+
+/// What a command line asks for.
+#[derive(Clone, Copy, Debug, PartialEq, Eq)]
+pub enum Verb {
+    /// The binary form of the expression that the input spells.
+    Encode,
+    /// The printed text of the expression that the input is the binary form of.
+    Decode,
+    /// The expression that the input spells, with a value for each import, printed.
+    Resolve,
+    /// The printed type of the expression that the input spells.
+    Type,
+    /// The printed normal form of the expression that the input spells.
+    Normalize,
+    /// The digest of the normal form of the expression that the input spells.
+    Hash,
+    /// The JSON text of the normal form of the expression that the input spells.
+    ToJson,
+    /// The input with the digest of its value behind each import that has none.
+    Freeze,
+    /// The expression that the input spells after one step at each place that is named, and whether it is normal.
+    Steps,
+    /// What the commands and the exit statuses are.
+    Help,
+    /// The versions of the program and of the standard.
+    Version,
+}
+
+impl Verb {
+    /// Whether the command reads its input.
+    pub fn reads(self) -> bool
+        ensures { result ≡ reads self }
+    {
+        match self {
+            Verb::Encode | Verb::Decode | Verb::Resolve => true,
+            Verb::Type | Verb::Normalize | Verb::Hash | Verb::ToJson => true,
+            Verb::Freeze | Verb::Steps => true,
+            Verb::Help | Verb::Version => false,
+        }
+    }
+
+    /// How many places may be the operands of the command.
+    pub fn most_operands(self) -> u32
+        ensures { result ≡ most_operands self }
+    {
+        match self {
+            Verb::Steps => MOST_PLACES,
+            _ => 0,
+        }
+    }
+}

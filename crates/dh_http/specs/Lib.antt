@@ -1,0 +1,14 @@
+pub mod Bodies
+pub mod Content
+pub mod Fields
+pub mod Forms
+pub mod Heads
+pub mod Laws
+pub mod MemLink
+pub mod Only
+pub mod Reading
+pub mod Reply
+pub mod Requests
+pub mod Scanning
+pub mod Sent
+pub mod Trailers

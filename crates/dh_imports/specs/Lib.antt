@@ -1,0 +1,15 @@
+pub mod Freezing
+pub mod FrozenTexts
+pub mod HonestCache
+pub mod ImportFaults
+pub mod Keeps
+pub mod LastStep
+pub mod Machine
+pub mod Outcomes
+pub mod Readings
+pub mod Records
+pub mod Replay
+pub mod Resolver
+pub mod RootEnds
+pub mod TextPaths
+pub mod Walk

@@ -1,0 +1,9 @@
+pub mod Inside
+pub mod Outside
+pub mod Room
+pub mod Sizes
+pub mod StepLaws
+pub mod StepLines
+pub mod StepRuns
+pub mod StepWords
+pub mod StepsAnswer

@@ -1,0 +1,156 @@
+-- Why a run ended by the status of a fault, and what it wrote.
+use Rattle.std.proofs.Common.{◌≡◌, ◌⊎◌, inl, inr, ℕ, List, [], Result, Ok, Err, Bool, true, false, true≢false, refl, sym, ap, ◌∙◌, subst}
+use Rattle.std.specs.Prelude.{IsTrue}
+use Rattle.dh_command.specs.declared.commands.Command.{Command}
+use Rattle.dh_command.specs.declared.statuses.Status.{Status}
+use Rattle.dh_command.specs.declared.statuses.Status.TheVariants as status
+use Rattle.dh_command.specs.declared.verbs.Verb.{Verb}
+use Rattle.dh_command.specs.declared.verbs.Verb.TheVariants as verb
+use Rattle.dh_command.specs.Answer.{CommandAnswer, usage, does, Does, encodes, decodes, decodes_none, spells, spells_none, takes_steps, helps, tells_version, ResolvedAnswer, valued, faulty, circular, overfull, FaultAnswer, at_fault, ValuedAnswer, itself, frozen, typed, TypedAnswer, prints, refuses, limited, no_value, cycle_at, too_many_keys}
+use Rattle.dh_command.specs.Lines.{read_line, memory_line, usage_line}
+use Rattle.dh_command.specs.Responses.{Response, answer, fault, line}
+use Rattle.dh_command.specs.Statuses.{why_status}
+use Rattle.dh_command.specs.StepsReplies.{AreNamed, steps_response}
+use Rattle.dh_command.specs.Words.{Word, command_of, operand_words, resolves, types}
+use Rattle.dh_imports.specs.declared.outcomes.Blame.{Blame}
+use Rattle.dh_imports.specs.Readings.{Reading, root_reading}
+use Rattle.dh_imports.specs.Records.{Record}
+use Rattle.dh_json.specs.FaultLines.{no_json_line}
+use Rattle.dh_steps.specs.StepLines.{outside_line, no_rule_line, grown_line}
+use Rattle.dh_steps.specs.StepsAnswer as replies
+use Rattle.dh_steps.specs.StepsAnswer.{StepsAnswer, StepsReply}
+use Rattle.dh_syntax.specs.FaultLines.{decode_fault_line, norm_fault_line, parse_fault_line}
+use Rattle.dh_syntax.specs.declared.faults.ParseFault.TheVariants as parse
+use Rattle.dh_syntax.specs.Expressions.Tree.{Term}
+use Rattle.dh_syntax.specs.Text.Spelling.{ParsesTo}
+use Rattle.dh_top.specs.Causes as causes
+use Rattle.dh_top.specs.Causes.{Cause, Decides, IsValued, IsCaused, TellsOneLine, has_cause, is_refusal}
+use Rattle.dh_top.specs.Outside.{Outside, Finds}
+use Rattle.dh_top.specs.Runs.{Input, Output, Gains, Makes, answers, cannot_read, lacks_memory, Delivers, whole, out_failed, err_failed, Runs, IsRead, FindsFor}
+
+-- what a fault writes, and why
+abbrev Blamed : Verb → List Word → List ℕ → Record → Response → Type 0
+Blamed v ops text r w = (told : List ℕ) × (w.out ≡ []) × (w.err ≡ line told) × Cause v ops text r w.status
+
+of-fault : (v : Verb) (ops : List Word) (text : List ℕ) (r : Record) (w : Response) (told : List ℕ) (s : Status) → w ≡ fault told s → Cause v ops text r s → Blamed v ops text r w
+of-fault v ops text r w told s u c =
+    (told, ap (λ (x : Response). x.out) u, ap (λ (x : Response). x.err) u, subst (Cause v ops text r) (sym (ap (λ (x : Response). x.status) u)) c)
+
+not-so : {P : Type 0} (f : Status → Bool) (s t : Status) → s ≡ t → f t ≡ false → IsTrue (f s) → P
+not-so f s t e n h = absurd (true≢false (sym h ∙ ap f e ∙ n))
+
+no-answer : {P : Type 0} (w : Response) (bytes : List ℕ) → w ≡ answer bytes → IsTrue (is_refusal w.status) → P
+no-answer w bytes u t = not-so is_refusal w.status status.Ok (ap (λ (x : Response). x.status) u) refl t
+
+-- ---- by cases of what the command does
+
+of-typed : (v : Verb) (ops : List Word) (text : List ℕ) (r : Record) (i : Reading) (e : Term) (w : Response) → IsTrue (types v) → IsValued text r e → TypedAnswer v i e w
+    → IsTrue (is_refusal w.status) → Blamed v ops text r w
+of-typed v ops text r i e w h val (prints t bytes ty p u) n = no-answer w (line bytes) u n
+of-typed v ops text r i e w h val (refuses f bytes ill l u) n = of-fault v ops text r w bytes status.Ill u (causes.no_type e f h val ill)
+of-typed v ops text r i e w h val (limited l m k u) n = of-fault v ops text r w (norm_fault_line l) status.Limit u (causes.at_limit e l h val m k)
+of-typed v ops text r i e w h val (no_value t f place same ty nf deep j u) n =
+    of-fault v ops text r w (no_json_line place) status.NoJson u (causes.no_value e t f place same val ty nf deep j)
+
+of-valued : (v : Verb) (ops : List Word) (text : List ℕ) (r : Record) (i : Reading) (e : Term) (w : Response) → IsValued text r e → ValuedAnswer v i e w
+    → IsTrue (is_refusal w.status) → Blamed v ops text r w
+of-valued v ops text r i e w val (itself h u) n = no-answer w _ u n
+of-valued v ops text r i e w val (frozen bytes h z u) n = no-answer w bytes u n
+of-valued v ops text r i e w val (typed h a) n = of-typed v ops text r i e w h val a n
+
+of-blame : (v : Verb) (ops : List Word) (text : List ℕ) (r : Record) (b : Blame) (w : Response) → IsTrue (resolves v) → Decides text r b → FaultAnswer r b w → Blamed v ops text r w
+of-blame v ops text r b w h d (at_fault bytes l u) = of-fault v ops text r w bytes (why_status b.why) u (causes.at_fault b h d)
+
+of-resolved : (v : Verb) (ops : List Word) (text : List ℕ) (root : Term) (r : Record) (w : Response) → IsTrue (resolves v) → ParsesTo text (Ok root) → ResolvedAnswer v text root r w
+    → IsTrue (is_refusal w.status) → Blamed v ops text r w
+of-resolved v ops text root r w h p (valued e ask ends has a) n = of-valued v ops text r (root_reading text root ask) e w (root, ask, p, ends, has) a n
+of-resolved v ops text root r w h p (faulty b ends a) n = of-blame v ops text r b w h (causes.an_import root p ends) a
+of-resolved v ops text root r w h p (circular j ends a) n = of-blame v ops text r (cycle_at j) w h (causes.a_loop root j p ends refl) a
+of-resolved v ops text root r w h p (overfull ends a) n = of-blame v ops text r too_many_keys w h (causes.all_keys root p ends refl) a
+
+of-steps : (v : Verb) (ops : List Word) (text : List ℕ) (r : Record) (w : Response) (places : List (List ℕ)) (s : StepsReply) → v ≡ verb.Steps → AreNamed ops places
+    → StepsAnswer places text s → w ≡ steps_response s → IsTrue (is_refusal w.status) → Blamed v ops text r w
+of-steps v ops text r w places s h k (replies.spells_none f p u) q n =
+    of-fault v ops text r w (parse_fault_line f) status.Text (q ∙ ap steps_response u) (causes.no_expression f (inr (inr h)) p)
+of-steps v ops text r w places s h k (replies.is_outside e place p o u) q n =
+    of-fault v ops text r w (outside_line place) status.Step (q ∙ ap steps_response u) (causes.no_fragment e place h p o)
+of-steps v ops text r w places s h k (replies.has_no_rule e m p o g u) q n =
+    of-fault v ops text r w (no_rule_line m) status.Step (q ∙ ap steps_response u) (causes.no_rule e places m h k p g)
+of-steps v ops text r w places s h k (replies.grows e m p o g u) q n =
+    of-fault v ops text r w (grown_line m) status.Limit (q ∙ ap steps_response u) (causes.grows e places m h k p g)
+of-steps v ops text r w places s h k (replies.is_normal e f p o g i z u) q n = no-answer w _ (q ∙ ap steps_response u) n
+of-steps v ops text r w places s h k (replies.is_not_normal e f p o g i z u) q n = no-answer w _ (q ∙ ap steps_response u) n
+
+blamed : (v : Verb) (ops : List Word) (text : List ℕ) (r : Record) (w : Response) → Does v ops text r w → IsTrue (is_refusal w.status) → Blamed v ops text r w
+blamed v ops text r w (encodes (Ok e) h p q) n = no-answer w _ q n
+blamed v ops text r w (encodes (Err f) h p q) n = of-fault v ops text r w (parse_fault_line f) status.Text q (causes.no_expression f (inl h) p)
+blamed v ops text r w (decodes (Ok e) h l p q) n = no-answer w _ q n
+blamed v ops text r w (decodes (Err f) h l p q) n = of-fault v ops text r w (decode_fault_line f) status.Text q (causes.no_binary_form f h p)
+blamed v ops text r w (decodes_none h l q) n = of-fault v ops text r w (parse_fault_line parse.TooLarge) status.Text q (causes.too_large h l)
+blamed v ops text r w (spells e h p a) n = of-resolved v ops text e r w h p a n
+blamed v ops text r w (spells_none f h p q) n = of-fault v ops text r w (parse_fault_line f) status.Text q (causes.no_expression f (inr (inl h)) p)
+blamed v ops text r w (takes_steps places s h k a q) n = of-steps v ops text r w places s h k a q n
+blamed v ops text r w (helps h q) n = no-answer w _ q n
+blamed v ops text r w (tells_version h q) n = no-answer w _ q n
+
+-- ---- runs
+
+caused-is-refused : (s : Status) → IsTrue (has_cause s) → IsTrue (is_refusal s)
+caused-is-refused status.Ok h = absurd (true≢false (sym h))
+caused-is-refused status.Text h = refl
+caused-is-refused status.Ill h = refl
+caused-is-refused status.Import h = refl
+caused-is-refused status.Limit h = refl
+caused-is-refused status.Usage h = absurd (true≢false (sym h))
+caused-is-refused status.Read h = absurd (true≢false (sym h))
+caused-is-refused status.Write h = absurd (true≢false (sym h))
+caused-is-refused status.Desk h = refl
+caused-is-refused status.Memory h = absurd (true≢false (sym h))
+caused-is-refused status.NoJson h = refl
+caused-is-refused status.Step h = refl
+
+made-caused : (words : List Word) (input : Input) (o : Outside) (r : Record) (w : Response) → Makes words input o r w → IsTrue (has_cause w.status) → IsCaused words input o w.status
+made-caused words input o r w (answers text read f (usage k h u)) n = not-so has_cause w.status status.Usage (ap (λ (x : Response). x.status) u) refl n
+made-caused words input o r w (answers text read f (does c h d)) n = record {
+  command = c;
+  asked = h;
+  text = text;
+  read = subst (λ k. IsRead k text input) h read;
+  found = r;
+  finds = subst (λ k. FindsFor k text o r) h f;
+  cause = (blamed c.verb (operand_words words) text r w d (caused-is-refused w.status n)).3;
+}
+made-caused words input o r w (cannot_read c h rose alone u) n = not-so has_cause w.status status.Read (ap (λ (x : Response). x.status) u) refl n
+made-caused words input o r w (lacks_memory l u) n = not-so has_cause w.status status.Memory (ap (λ (x : Response). x.status) u) refl n
+
+pub caused : (words : List Word) (input : Input) (o : Outside) (out err : Output) (s : Status) → Runs words input o out err s → IsTrue (has_cause s) → IsCaused words input o s
+caused words input o out err s run n = by run.delivers
+  where
+    by : Delivers run.written out err s → IsCaused words input o s
+    by (whole g h e) = subst (IsCaused words input o) (sym e) (made-caused words input o run.found run.written run.makes (subst (λ t. IsTrue (has_cause t)) e n))
+    by (out_failed g h e) = not-so has_cause s status.Write e refl n
+    by (err_failed g h e) = not-so has_cause s status.Write e refl n
+
+-- what a refusal writes
+abbrev OneLine : Response → Type 0
+OneLine w = (told : List ℕ) × (w.out ≡ []) × (w.err ≡ line told)
+
+line-of : (w : Response) (told : List ℕ) (s : Status) → w ≡ fault told s → OneLine w
+line-of w told s u = (told, ap (λ (x : Response). x.out) u, ap (λ (x : Response). x.err) u)
+
+made-line : (words : List Word) (input : Input) (o : Outside) (r : Record) (w : Response) → Makes words input o r w → IsTrue (is_refusal w.status) → OneLine w
+made-line words input o r w (answers text read f (usage k h u)) n = line-of w (usage_line k) status.Usage u
+made-line words input o r w (answers text read f (does c h d)) n =
+    let (told, p, q, z) = blamed c.verb (operand_words words) text r w d n in (told, p, q)
+made-line words input o r w (cannot_read c h rose alone u) n = line-of w read_line status.Read u
+made-line words input o r w (lacks_memory l u) n = line-of w memory_line status.Memory u
+
+pub told-line : (words : List Word) (input : Input) (o : Outside) (out err : Output) (s : Status) → Runs words input o out err s → IsTrue (is_refusal s) → TellsOneLine out err
+told-line words input o out err s run n = by run.delivers
+  where
+    by : Delivers run.written out err s → TellsOneLine out err
+    by (whole g h e) =
+        let (told, p, q) = made-line words input o run.found run.written run.makes (subst (λ t. IsTrue (is_refusal t)) e n) in
+        (subst (Gains out) p g, (told, subst (Gains err) q h))
+    by (out_failed g h e) = not-so is_refusal s status.Write e refl n
+    by (err_failed g h e) = not-so is_refusal s status.Write e refl n

@@ -1,0 +1,1 @@
+λ(x : Bool) → λ(y : Bool) → x

@@ -1,0 +1,1 @@
+../data/cycle.dhall

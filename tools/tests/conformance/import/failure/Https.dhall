@@ -1,0 +1,1 @@
+https://dhall.invalid/a.dhall

@@ -1,0 +1,1 @@
+missing ? 2

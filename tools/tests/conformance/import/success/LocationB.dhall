@@ -1,0 +1,1 @@
+< Environment : Text | Local : Text | Missing | Remote : Text >.Local "../data/one.dhall"

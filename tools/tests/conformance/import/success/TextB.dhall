@@ -1,0 +1,1 @@
+"two\nlines\n"

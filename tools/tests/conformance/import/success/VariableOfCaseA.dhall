@@ -1,0 +1,1 @@
+env:COLOUR as Text

@@ -1,0 +1,1 @@
+[ { mapKey = "COLOUR", mapValue = "red" } ]

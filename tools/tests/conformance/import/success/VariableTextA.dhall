@@ -1,0 +1,1 @@
+env:DHALL_TEST_VAR as Text

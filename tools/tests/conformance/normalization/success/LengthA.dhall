@@ -1,0 +1,1 @@
+List/length Natural [ 1, 2 ]

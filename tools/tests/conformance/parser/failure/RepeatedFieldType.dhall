@@ -1,0 +1,1 @@
+{ a : Bool, a : Bool }

@@ -1,0 +1,1 @@
+env:X ? /etc/a

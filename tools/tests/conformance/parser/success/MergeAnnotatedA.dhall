@@ -1,0 +1,1 @@
+merge h u : T

@@ -1,0 +1,1 @@
+∀(B : Bool) → < A | B : Bool >

@@ -1,0 +1,1 @@
+Natural → ∀(natural : Type) → ∀(succ : natural → natural) → ∀(zero : natural) → natural

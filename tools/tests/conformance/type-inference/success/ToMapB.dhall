@@ -1,0 +1,1 @@
+List { mapKey : Text, mapValue : Natural }
