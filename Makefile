@@ -3,6 +3,7 @@
 # make install    the program, its manual page and completions; PREFIX, DESTDIR; make uninstall removes them
 # make check      the gate: every proof, test, refused edit, program and script that did not pass on this machine before (docs/GATE.md);
 #                 MINUTES=N begins no refused edits N minutes after it began
+# make speed      times the program on named inputs and graphs, and counts its instructions where valgrind is there; OTHER=PROGRAM: beside another
 # make check-all  the kit's own gate, which uses nothing of the store that make check keeps; to be passed before a release
 
 PREFIX ?= /usr/local
@@ -15,7 +16,7 @@ BASH_WORDS = $(DESTDIR)$(PREFIX)/share/bash-completion/completions/dhall
 ZSH_WORDS = $(DESTDIR)$(PREFIX)/share/zsh/site-functions/_dhall
 FISH_WORDS = $(DESTDIR)$(PREFIX)/share/fish/vendor_completions.d/dhall.fish
 
-.PHONY: build run install uninstall check check-all
+.PHONY: build run install uninstall check check-all speed
 
 # The proved program, crates/dhall/out/dhall. It says which crate it is at.
 build:
@@ -43,3 +44,8 @@ check:
 
 check-all:
 	rt ci
+
+# Tables of times and of instructions, as docs/PERFORMANCE.md has them. OTHER is another Dhall program, by its path.
+speed:
+	python3 tools/speed.py --program $(PROGRAM) $(if $(OTHER),--compare $(OTHER))
+	@if command -v valgrind > /dev/null; then python3 tools/instructions.py --program $(PROGRAM) $(if $(OTHER),--compare $(OTHER)); else echo "valgrind is not here: no instructions counted"; fi

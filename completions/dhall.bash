@@ -2,7 +2,7 @@
 
 _dhall() {
     local word="${COMP_WORDS[COMP_CWORD]}" command="${COMP_WORDS[1]}"
-    local commands="encode decode resolve type normalize hash to-json freeze steps help"
+    local commands="encode decode resolve type normalize hash to-json freeze steps explain help"
     COMPREPLY=()
     # (the input comes by < FILE, and bash completes that name itself)
     if [[ "$COMP_CWORD" -eq 1 ]]; then
@@ -11,6 +11,8 @@ _dhall() {
         COMPREPLY=($(compgen -W "--workers" -- "$word"))
         if [[ "$command" == steps ]]; then
             COMPREPLY+=($(compgen -W "root" -- "$word"))
+        elif [[ "$command" == explain ]]; then
+            COMPREPLY+=($(compgen -W "$(seq 1 56)" -- "$word"))
         fi
     elif [[ "$COMP_CWORD" -eq 3 && "${COMP_WORDS[2]}" == --workers ]]; then
         COMPREPLY=($(compgen -W "1 2 4 8 16 32 64" -- "$word"))

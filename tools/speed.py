@@ -3,7 +3,9 @@
 
 For each input and size it prints the time of a run, its greatest memory, and the time beside that of the size before; for a
 graph that for each number of workers, and the time beside that of one worker. The least of a few runs counts, since other work
-on the machine only adds. Plain Python 3, some minutes for the inputs, and some for the graphs.
+on the machine only adds. With --compare it runs another Dhall program on the same inputs and graphs, and prints its time and
+memory beside them. That is given by its path, takes the same commands, and reads standard input; its workers are its own. Plain
+Python 3, some minutes for the inputs, and some for the graphs.
 """
 import argparse
 import os
@@ -361,13 +363,33 @@ def ratio(time, other):
     return "" if other is None else f"{time / other:5.2f}"
 
 
-def show(program, command, name, sizes, make, tries):
+def best(program, words, data, tries, folder=None):
+    return min((run(program, words, data, folder) for _ in range(tries)), key=lambda r: r[0])
+
+
+def beside(given, command, data, ran, folder=None):
+    """The cells of another program on the same input: its time, its memory, how much longer ours took, and whether it answers the same."""
+    if not given.compare:
+        return ""
+    other = best(given.compare, [command], data, given.tries, folder)
+    same = "the same" if other[2:4] == ran[2:4] else f"{other[2]} {note(other)}"
+    return f" {other[0]:.3f} | {other[1]:.0f} | {ran[0] / other[0]:.2f} | {same} |"
+
+
+def head(given, cells):
+    cells += ["The other's seconds", "Its MB", "Ours to its", "It ends with"] if given.compare else []
+    print("| " + " | ".join(cells) + " |")
+    print("|" + "---|" * len(cells))
+
+
+def show(given, command, name, sizes, make):
     before = None
     for size in sizes:
         data = make(size)
-        ran = min((run(program, [command], data) for _ in range(tries)), key=lambda r: r[0])
+        ran = best(given.program, [command], data, given.tries)
         growth = "" if before is None else f"{ran[0] / before:5.1f}"
-        print(f"| {command} | {name} | {size} | {len(data)} | {ran[0]:.3f} | {ran[1]:.0f} | {growth} | {ran[2]} {note(ran)} |", flush=True)
+        line = f"| {command} | {name} | {size} | {len(data)} | {ran[0]:.3f} | {ran[1]:.0f} | {growth} | {ran[2]} {note(ran)} |"
+        print(line + beside(given, command, data, ran), flush=True)
         before = ran[0]
 
 
@@ -383,7 +405,7 @@ def write(folder, graph):
     return root.encode(), length
 
 
-def show_graph(program, command, name, sizes, make, workers, tries, folder):
+def show_graph(given, command, name, sizes, make, workers, folder):
     before = {}
     for size in sizes:
         place = os.path.join(folder, f"{make.__name__}-{size}")
@@ -391,50 +413,47 @@ def show_graph(program, command, name, sizes, make, workers, tries, folder):
         one = None
         for w in workers:
             words = [command, "--workers", str(w)]
-            ran = min((run(program, words, root, place) for _ in range(tries)), key=lambda r: r[0])
+            ran = best(given.program, words, root, given.tries, place)
             growth = ratio(ran[0], before.get(w))
             one = ran[0] if w == 1 else one
-            beside = ratio(ran[0], one)
-            print(
-                f"| {command} | {name} | {size} | {length} | {w} | {ran[0]:.3f} | {ran[1]:.0f} | {growth} | {beside} | {ran[2]} {note(ran)} |",
-                flush=True,
-            )
+            to_one = ratio(ran[0], one)
+            line = f"| {command} | {name} | {size} | {length} | {w} | {ran[0]:.3f} | {ran[1]:.0f} | {growth} | {to_one} | {ran[2]} {note(ran)} |"
+            print(line + beside(given, command, root, ran, place), flush=True)
             before[w] = ran[0]
 
 
 def show_graphs(given, folder):
-    print("| Command | Graph | Size | Bytes in | Workers | Seconds | MB | Growth | To one worker | Ends with |")
-    print("|---|---|---|---|---|---|---|---|---|---|")
+    head(given, ["Command", "Graph", "Size", "Bytes in", "Workers", "Seconds", "MB", "Growth", "To one worker", "Ends with"])
     for name, make, sizes in GRAPHS:
         if given.command in (None, "normalize"):
-            show_graph(given.program, "normalize", name, sizes, make, WORKERS, given.tries, folder)
+            show_graph(given, "normalize", name, sizes, make, WORKERS, folder)
     for command in ["resolve", "type", "hash"]:
         if given.command in (None, command):
             name, make, sizes = GRAPHS[0]
-            show_graph(given.program, command, name, sizes, make, [4], given.tries, folder)
+            show_graph(given, command, name, sizes, make, [4], folder)
 
 
 def show_inputs(given):
-    print("| Command | Input | Size | Bytes in | Seconds | MB | Growth | Ends with |")
-    print("|---|---|---|---|---|---|---|---|")
+    head(given, ["Command", "Input", "Size", "Bytes in", "Seconds", "MB", "Growth", "Ends with"])
     for name, make, sizes in TEXTS:
         if given.command in (None, "encode"):
-            show(given.program, "encode", name, sizes, lambda n: make(n).encode(), given.tries)
+            show(given, "encode", name, sizes, lambda n: make(n).encode())
         if given.command in (None, "decode"):
             encoded = {n: run(given.program, ["encode"], make(n).encode())[3] for n in sizes}
-            show(given.program, "decode", name, sizes, lambda n: encoded[n], given.tries)
+            show(given, "decode", name, sizes, lambda n: encoded[n])
     if given.command in (None, "normalize"):
         for name, make, sizes in NORMAL:
-            show(given.program, "normalize", name, sizes, lambda n: make(n).encode(), given.tries)
+            show(given, "normalize", name, sizes, lambda n: make(n).encode())
     for command in ["type", "hash"]:
         if given.command in (None, command):
             for name, make, sizes in TYPED:
-                show(given.program, command, name, sizes, lambda n: make(n).encode(), given.tries)
+                show(given, command, name, sizes, lambda n: make(n).encode())
 
 
 def main():
     parser = argparse.ArgumentParser(description=__doc__.splitlines()[0])
     parser.add_argument("--program", default=os.path.join(ROOT, "crates", "dhall", "out", "dhall"))
+    parser.add_argument("--compare", metavar="OTHER", help="another program that takes the same commands, to be run beside it")
     parser.add_argument("--command", help="only this command")
     parser.add_argument("--tries", type=int, default=3)
     parser.add_argument("--part", choices=["inputs", "graphs"], help="only the inputs alone, or only the graphs of imports")
@@ -443,6 +462,10 @@ def main():
     given.program = os.path.abspath(given.program)
     if not os.access(given.program, os.X_OK):
         sys.exit(f"no program at {given.program}: build it first (make build)")
+    if given.compare:
+        given.compare = os.path.abspath(given.compare)
+        if not os.access(given.compare, os.X_OK):
+            sys.exit(f"no program at {given.compare}")
     if given.part != "graphs":
         show_inputs(given)
     if given.part != "inputs" and given.folder:

@@ -17,7 +17,7 @@ LONG = 120
 OK, TEXT, ILL, IMPORT, LIMIT, USAGE, READ, WRITE, DESK, MEMORY, NO_JSON, STEP = range(12)
 RESOLVING = ["resolve", "type", "normalize", "hash", "freeze", "to-json"]
 READING = ["encode", "decode", *RESOLVING, "steps"]
-VERBS = [*READING, "--help", "--version"]
+VERBS = [*READING, "explain", "--help", "--version"]
 
 PLACE = rb"(?:in [^\n]+: )?"
 DIGEST = rb"[0-9a-f]{64}"

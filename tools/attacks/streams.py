@@ -13,7 +13,7 @@ from attacks.texts import balanced
 # An input, what is written of it, and an input with the line of its fault.
 GOOD = {"encode": (b"True", b"\xf5"), "decode": (b"\xf5", b"True\n"), "resolve": (b"True", b"True\n"), "type": (b"True", b"Bool\n"),
         "normalize": (b"True", b"True\n"), "hash": (b"True", b"sha256:27abdeddfe8503496adeb623466caa47da5f63abd2bc6fa19f6cfcb73ecfed70\n"),
-        "freeze": (b"True", b"True"), "to-json": (b"True", b"true\n"), "steps": (b"True", b"True\nnormal\n"), "--help": (b"", None), "--version": (b"", b"dhall 0.1.0, standard 23\n")}
+        "freeze": (b"True", b"True"), "to-json": (b"True", b"true\n"), "steps": (b"True", b"True\nnormal\n"), "explain": (b"", None), "--help": (b"", None), "--version": (b"", b"dhall 0.1.0, standard 23\n")}
 BAD = {verb: (b"(", b"syntax at 1\n") for verb in READING} | {"decode": (b"\xff", b"indefinite length at 0\n")}
 
 

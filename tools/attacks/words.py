@@ -1,9 +1,10 @@
-"""Words that are no command line, for each command; each number of workers from 1 to 64 and numbers out of range; words that are no
-text, long ones, many; streams that are closed while the words are wrong."""
+"""Words that are no command line, for each command; each number of workers from 1 to 64 and numbers out of range; each number of a rule of
+typing, and words that are none; words that are no text, long ones, many; streams that are closed while the words are wrong."""
 
 import os
 
-from attacks.runs import VERBS, misused
+import type_rules
+from attacks.runs import VERBS, misused, written
 from attacks.streams import GOOD, good_run
 
 WRONG = [([], 1), ([""], 1), (["Encode"], 1), (["encode "], 1), (["encod"], 1), (["encodes"], 1), (["-"], 1), (["x", "encode"], 1),
@@ -36,6 +37,18 @@ def workers(runs, verb):
         runs.check("workers", f"{verb}, {n} workers", [verb, "--workers", str(n)], text, good)
 
 
+def rules(runs):
+    """What is told of each rule of typing is what its definition says."""
+    all_rules = type_rules.rules()
+    runs.check("rules", "explain", ["explain"], b"", written(type_rules.rule_list(all_rules).encode()))
+    for rule in all_rules:
+        for words, text in ((["explain"], b""), (["explain", "--workers", "2"], b"(")):
+            runs.check("rules", f"{words} {rule.number}", [*words, str(rule.number)], text, written(rule.told().encode()))
+    for word in ("57", "101", "014", "+14", " 14", "14 ", "14.0", "0x4", "1e1", "-14", "2147483648", "4294967310", "18446744073709551630", "9" * 1_000, "\u0664", "0" * 1_000 + "4"):
+        runs.check("rules", f"explain {word!a:.60}", ["explain", word], b"", misused(2))
+    runs.check("rules", "two rules", ["explain", "14", "14"], b"", misused(3))
+
+
 def without_streams(runs):
     """Wrong words are told before the input is looked at, and leave standard output alone."""
     for name, numbers in (("stdin closed", [0]), ("stdout closed", [1]), ("both closed", [0, 1])):
@@ -51,4 +64,5 @@ def attack(runs):
         workers(runs, verb)
     for word in ("help", "-h"):
         runs.check("words", word, [word], b"", good_run(runs, "--help"))
+    rules(runs)
     without_streams(runs)

@@ -20,7 +20,7 @@ HERE = os.path.dirname(os.path.abspath(__file__))
 ROOT = os.path.dirname(os.path.dirname(HERE))
 DHALL = os.path.abspath(os.environ.get("DHALL", f"{ROOT}/crates/dhall/out/dhall"))
 BASH_COMPLETION = "/usr/share/bash-completion/bash_completion"
-COMMANDS = ["encode", "decode", "resolve", "type", "normalize", "hash", "to-json", "freeze", "steps", "help"]
+COMMANDS = ["encode", "decode", "resolve", "type", "normalize", "hash", "to-json", "freeze", "steps", "explain", "help"]
 
 sys.path.insert(0, f"{ROOT}/tools")
 import commands
@@ -96,7 +96,7 @@ class Install(unittest.TestCase):
 
     def test_the_manual_page_has_each_command_and_status_of_help(self):
         page, told = self.page(), run(DHALL, "help").stdout
-        listed = [it for line in told.split("\n")[1:] for it in re.findall(r"^([\w-]+)(?: PLACE\.\.)?(?:,[^:]*)?: ", line)]
+        listed = [it for line in told.split("\n")[1:] for it in re.findall(r"^([\w-]+)(?: PLACE\.\.| \[RULE\])?(?:,[^:]*)?: ", line)]
         self.assertEqual([it for it in listed if not it.startswith("-")], COMMANDS)
         for name in COMMANDS:
             self.assertRegex(page, rf"(?m)^       {name}\b")
@@ -134,6 +134,8 @@ class Install(unittest.TestCase):
         self.assertIn("64", self.bash_words("dhall", "normalize", "--workers", ""))
         self.assertEqual(self.bash_words("dhall", "steps", "1", "r"), ["root"])
         self.assertEqual(self.bash_words("dhall", "hash", "x"), [])
+        self.assertEqual(self.bash_words("dhall", "e"), ["encode", "explain"])
+        self.assertEqual(self.bash_words("dhall", "explain", "5"), ["5", "50", "51", "52", "53", "54", "55", "56"])
 
     def fish_words(self, line):
         script = f'source "{self.at("share/fish/vendor_completions.d/dhall.fish")}"; complete -C "{line}"'
@@ -146,6 +148,7 @@ class Install(unittest.TestCase):
         self.assertEqual(sorted(self.fish_words("dhall ")), sorted(COMMANDS))
         self.assertEqual(self.fish_words("dhall normalize --w"), ["--workers"])
         self.assertIn("64", self.fish_words("dhall normalize --workers "))
+        self.assertEqual([it for it in self.fish_words("dhall explain ") if it.isdigit()], [str(n) for n in range(1, 57)])
 
     def test_zsh(self):
         path = self.at("share/zsh/site-functions/_dhall")

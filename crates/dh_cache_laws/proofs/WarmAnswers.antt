@@ -139,6 +139,7 @@ PrintsOf e t verb.Hash a = (f : Term) × HasNormalForm names e f × (a ≡ diges
 PrintsOf e t verb.ToJson a = (f : Term) × (d : Data) × HasNormalForm names e f × (json f ≡ Ok d) × (a ≡ compact_text d)
 PrintsOf e t verb.Freeze a = ⊥
 PrintsOf e t verb.Steps a = ⊥
+PrintsOf e t verb.Explain a = ⊥
 PrintsOf e t verb.Help a = ⊥
 PrintsOf e t verb.Version a = ⊥
 
@@ -169,6 +170,7 @@ prints-same verb.Decode e d t u a b s q h k = absurd h
 prints-same verb.Resolve e d t u a b s q h k = absurd h
 prints-same verb.Freeze e d t u a b s q h k = absurd h
 prints-same verb.Steps e d t u a b s q h k = absurd h
+prints-same verb.Explain e d t u a b s q h k = absurd h
 prints-same verb.Help e d t u a b s q h k = absurd h
 prints-same verb.Version e d t u a b s q h k = absurd h
 
@@ -275,6 +277,7 @@ plain-answer v ops text plain p t ok (answers.decodes_none h k q) = unless-resol
 plain-answer v ops text plain p t ok (answers.spells root h k a) = plain-answer_of v text plain p root k ok a
 plain-answer v ops text plain p t ok (answers.spells_none f h k q) = text-no_ok (sym (status-of p _ q) ∙ ok)
 plain-answer v ops text plain p t ok (answers.takes_steps places s h n x u) = unless-resolved v verb.Steps t h refl
+plain-answer v ops text plain p t ok (answers.explains told h n q) = unless-resolved v verb.Explain t h refl
 plain-answer v ops text plain p t ok (answers.helps h q) = unless-resolved v verb.Help t h refl
 plain-answer v ops text plain p t ok (answers.tells_version h q) = unless-resolved v verb.Version t h refl
 
@@ -373,5 +376,6 @@ warm_answers v ops text r plain w p t warm dp ok dr free =
         (subst (λ z. ResolvedAnswer v text z r w) (ap (expression_of a.root) (reading.parses_once text (Ok root) (Ok a.root) k a.parses)) x)
     go a (answers.spells_none f h k q) = ok-err (Ok a.root) (Err f) (reading.parses_once text (Ok a.root) (Err f) a.parses k) tt (λ x. x)
     go a (answers.takes_steps places s h n x u) = unless-resolved v verb.Steps t h refl
+    go a (answers.explains told h n q) = unless-resolved v verb.Explain t h refl
     go a (answers.helps h q) = unless-resolved v verb.Help t h refl
     go a (answers.tells_version h q) = unless-resolved v verb.Version t h refl

@@ -32,6 +32,7 @@ AreSameLines verb.Hash a b = a ≡ b
 AreSameLines verb.ToJson a b = a ≡ b
 AreSameLines verb.Freeze a b = a ≡ b
 AreSameLines verb.Steps a b = ⊥
+AreSameLines verb.Explain a b = ⊥
 AreSameLines verb.Help a b = ⊥
 AreSameLines verb.Version a b = ⊥
 

@@ -15,6 +15,7 @@ pub struct Case {
     pub then: Vec<Vec<String>>,
     pub files: Vec<File>,
     pub cache: Vec<Entry>,
+    pub narrow: Narrow,
     pub failing: Failing,
     /// How many desks there are, each with the files, the cache and the failures.
     pub desks: u32,
@@ -63,6 +64,42 @@ pub enum Found {
 pub struct Entry {
     pub digest: [u8; 32],
     pub bytes: Vec<u8>,
+}
+
+/// Which of the three streams move at most one byte a call.
+#[derive(Clone, Copy, Debug, PartialEq, Eq)]
+pub struct Narrow {
+    pub read: bool,
+    pub out: bool,
+    pub err: bool,
+}
+
+impl Narrow {
+    /// No stream.
+    pub const NONE: Narrow = Narrow {
+        read: false,
+        out: false,
+        err: false,
+    };
+
+    /// Adds the stream of this name.
+    pub(crate) fn add(&mut self, stream: &str) -> Result<(), Fault> {
+        match stream {
+            "read" => mark(&mut self.read),
+            "out" => mark(&mut self.out),
+            "err" => mark(&mut self.err),
+            _ => Err(Fault::UnknownDevice),
+        }
+    }
+}
+
+/// Marks what is not marked yet.
+fn mark(place: &mut bool) -> Result<(), Fault> {
+    if *place {
+        return Err(Fault::Twice);
+    }
+    *place = true;
+    Ok(())
 }
 
 /// The numbers, from 1, of the calls that fail: of the three streams, and of each desk.

@@ -2,7 +2,7 @@
 
 ghost use Rattle.std.specs.Prelude.{◌<◌, IfOk};
 
-use crate::cases::{Case, Entry, Failing, File, Found, Row};
+use crate::cases::{Case, Entry, Failing, File, Found, Narrow, Row};
 use crate::errors::{CaseError, Fault, at_line, push};
 use crate::escapes::digest_of;
 use crate::fields::{Field, cut};
@@ -19,6 +19,7 @@ pub(crate) struct Draft {
     then: Vec<Vec<String>>,
     files: Vec<File>,
     cache: Vec<Entry>,
+    narrow: Narrow,
     failing: Failing,
     desks: Option<u32>,
     rows: Vec<Row>,
@@ -181,6 +182,7 @@ impl Draft {
             then: Vec::new(alloc),
             files: Vec::new(alloc),
             cache: Vec::new(alloc),
+            narrow: Narrow::NONE,
             failing: Failing::none(alloc),
             desks: None,
             rows: Vec::new(alloc),
@@ -250,6 +252,7 @@ impl Draft {
             "files" => push_files(&mut self.files, reader, field.rest)?,
             "allow" => allow(alloc, &mut self.files, field.rest)?,
             "answers" => push_status(alloc, &mut self.files, field)?,
+            "narrow" => self.add_narrow(field.rest)?,
             "fail" => self.add_failing(field.rest)?,
             _ => return self.take_number(field),
         }
@@ -271,6 +274,14 @@ impl Draft {
     fn add_word(&mut self, alloc: Global, word: &str) -> Result<(), Fault> {
         let words = self.commands.last_mut().ok_or(Fault::NoWordsAbove)?;
         words.push(String::from_str(alloc, word)?)?;
+        Ok(())
+    }
+
+    /// Adds streams that move at most one byte a call.
+    fn add_narrow(&mut self, text: &str) -> Result<(), Fault> {
+        for stream in text.split_whitespace() {
+            self.narrow.add(stream)?;
+        }
         Ok(())
     }
 
@@ -323,6 +334,7 @@ impl Draft {
             then,
             files,
             cache,
+            narrow,
             failing,
             desks,
             rows,
@@ -341,6 +353,7 @@ impl Draft {
             then,
             files,
             cache,
+            narrow,
             failing,
             desks: desks.unwrap_or(1),
             rows,

@@ -21,7 +21,7 @@ mod rows;
 mod values;
 
 pub use answers::{CannotRun, Ran};
-pub use cases::{Case, Entry, Failing, File, Found, Row};
+pub use cases::{Case, Entry, Failing, File, Found, Narrow, Row};
 pub use comparing::agrees;
 pub use errors::{CaseError, Fault};
 pub use reading::read_cases;

@@ -27,6 +27,7 @@ use Rattle.dh_command.specs.Telling.{help_text, version_text}
 use Rattle.dh_command.specs.StepsReplies.{AreNamed, OperandsSucceed, steps_response}
 use Rattle.dh_steps.specs.StepsAnswer.{StepsAnswer, StepsReply}
 use Rattle.dh_command.specs.Words.{Word, command_of, operand_words, resolves, types, takes_form}
+use Rattle.dh_explain.specs.RuleWords.{operand_text}
 use Rattle.dh_json.specs.FaultLines.{no_json_line}
 use Rattle.dh_json.specs.JsonValue.{json}
 use Rattle.dh_syntax.specs.Expressions.Nesting.{nesting}
@@ -141,6 +142,7 @@ pub data Does (v : Verb) (ops : List Word) (input : List ℕ) (r : Record) (w : 
   spells_none : (f : ParseFault) → IsTrue (resolves v) → ParsesTo input (Err f) → w ≡ misspelt f → Does v ops input r w
   takes_steps : (places : List (List ℕ)) (s : StepsReply) → v ≡ verb.Steps → AreNamed ops places → StepsAnswer places input s → w ≡ steps_response s → Does v ops input r w
   -- of the program itself, whatever the input
+  explains : (text : List ℕ) → v ≡ verb.Explain → operand_text 1 ops ≡ Ok text → w ≡ answer text → Does v ops input r w
   helps : v ≡ verb.Help → w ≡ answer help_text → Does v ops input r w
   tells_version : v ≡ verb.Version → w ≡ answer version_text → Does v ops input r w
 
@@ -172,6 +174,7 @@ SucceedsOn verb.Hash e = IsTypedInTime e × IsNormalInTime e
 SucceedsOn verb.ToJson e = IsTypedInTime e × IsNormalInTime e × HasJson e
 SucceedsOn verb.Freeze e = ⊤
 SucceedsOn verb.Steps e = ⊥
+SucceedsOn verb.Explain e = ⊥
 SucceedsOn verb.Help e = ⊥
 SucceedsOn verb.Version e = ⊥
 
@@ -190,5 +193,6 @@ Succeeds verb.Hash ops input r = SucceedsBy verb.Hash input r
 Succeeds verb.ToJson ops input r = SucceedsBy verb.ToJson input r
 Succeeds verb.Freeze ops input r = SucceedsBy verb.Freeze input r
 Succeeds verb.Steps ops input r = OperandsSucceed ops input
+Succeeds verb.Explain ops input r = ⊤
 Succeeds verb.Help ops input r = ⊤
 Succeeds verb.Version ops input r = ⊤

@@ -14,6 +14,7 @@ help_text =
     ++ codes "to-json: prints the JSON text of its normal form\n"
     ++ codes "freeze: writes the input with a digest behind each import that has none\n"
     ++ codes "steps PLACE..: prints the expression after one step at each place, and whether it is normal\n"
+    ++ codes "explain [RULE]: prints what a rule of typing wants, or the list of the rules; reads no input\n"
     ++ codes "help, --help, -h: prints this page\n"
     ++ codes "--version: prints the version of the program and of the standard\n"
     ++ codes "status 0: the answer was written\n"

@@ -1,5 +1,5 @@
 -- The words of the command line, the program's name left out.
-use Rattle.std.specs.Prelude.{ℕ, Bool, true, false, ◌&&◌, not, nat_le, ◌==◌, if◌then◌else◌, List, [], ◌∷◌, drop, Option, Some, None, option_map, find, Result, Ok, Err, IsOk, codes}
+use Rattle.std.specs.Prelude.{ℕ, Bool, true, false, ◌&&◌, not, nat_le, ◌==◌, if◌then◌else◌, List, [], ◌∷◌, drop, Option, Some, None, option_map, find, Result, Ok, Err, IsOk, MatchBool, codes}
 use Rattle.std.specs.Char.{is_ascii_digit}
 use Rattle.std.specs.List.{list_all}
 use Rattle.std.specs.Str.{byte}
@@ -7,6 +7,7 @@ use Rattle.std.specs.Str.Parse.{digits_value}
 use Rattle.dh_command.specs.declared.commands.Command.{Command}
 use Rattle.dh_command.specs.declared.verbs.Verb.{Verb}
 use Rattle.dh_command.specs.declared.verbs.Verb.TheVariants as verb
+use Rattle.dh_explain.specs.RuleWords.{operand_text}
 use Rattle.dh_syntax.specs.Expressions.Numbers.{bytes_eq}
 use Rattle.dh_steps.specs.StepWords.{most_places, operand_places}
 use Rattle.dh_syntax.specs.Limits.{most_workers, default_workers}
@@ -21,8 +22,8 @@ Word = List ℕ
 abbrev pub named : List (Word × Verb)
 named =
     (codes "encode", verb.Encode) ∷ (codes "decode", verb.Decode) ∷ (codes "resolve", verb.Resolve) ∷ (codes "type", verb.Type) ∷ (codes "normalize", verb.Normalize)
-    ∷ (codes "hash", verb.Hash) ∷ (codes "to-json", verb.ToJson) ∷ (codes "freeze", verb.Freeze) ∷ (codes "steps", verb.Steps) ∷ (codes "help", verb.Help) ∷ (codes "--help", verb.Help) ∷ (codes "-h", verb.Help)
-    ∷ (codes "--version", verb.Version) ∷ []
+    ∷ (codes "hash", verb.Hash) ∷ (codes "to-json", verb.ToJson) ∷ (codes "freeze", verb.Freeze) ∷ (codes "steps", verb.Steps)
+    ∷ (codes "explain", verb.Explain) ∷ (codes "help", verb.Help) ∷ (codes "--help", verb.Help) ∷ (codes "-h", verb.Help) ∷ (codes "--version", verb.Version) ∷ []
 
 -- which commands read their input
 abbrev pub reads : Verb → Bool
@@ -35,6 +36,7 @@ reads verb.Hash = true
 reads verb.ToJson = true
 reads verb.Freeze = true
 reads verb.Steps = true
+reads verb.Explain = false
 reads verb.Help = false
 reads verb.Version = false
 
@@ -49,6 +51,7 @@ resolves verb.Hash = true
 resolves verb.ToJson = true
 resolves verb.Freeze = true
 resolves verb.Steps = false
+resolves verb.Explain = false
 resolves verb.Help = false
 resolves verb.Version = false
 
@@ -63,6 +66,7 @@ types verb.Hash = true
 types verb.ToJson = true
 types verb.Freeze = false
 types verb.Steps = false
+types verb.Explain = false
 types verb.Help = false
 types verb.Version = false
 
@@ -77,6 +81,7 @@ takes_form verb.Hash = true
 takes_form verb.ToJson = true
 takes_form verb.Freeze = false
 takes_form verb.Steps = false
+takes_form verb.Explain = false
 takes_form verb.Help = false
 takes_form verb.Version = false
 
@@ -91,8 +96,24 @@ most_operands verb.Hash = 0
 most_operands verb.ToJson = 0
 most_operands verb.Freeze = 0
 most_operands verb.Steps = most_places
+most_operands verb.Explain = 0
 most_operands verb.Help = 0
 most_operands verb.Version = 0
+
+-- whether the operand of a command is the number of a rule of typing
+abbrev pub takes_rule : Verb → Bool
+takes_rule verb.Encode = false
+takes_rule verb.Decode = false
+takes_rule verb.Resolve = false
+takes_rule verb.Type = false
+takes_rule verb.Normalize = false
+takes_rule verb.Hash = false
+takes_rule verb.ToJson = false
+takes_rule verb.Freeze = false
+takes_rule verb.Steps = false
+takes_rule verb.Explain = true
+takes_rule verb.Help = false
+takes_rule verb.Version = false
 
 -- the command that a word names
 abbrev pub verb_of : Word → Option Verb
@@ -109,14 +130,18 @@ is_count (b ∷ bs) = not (b == byte "0") && list_all is_ascii_digit (b ∷ bs)
 abbrev pub workers_of : Word → Option ℕ
 workers_of w = if is_count w && nat_le (digits_value 10 w) most_workers then Some (digits_value 10 w) else None
 
--- a command whose operands name these places
-abbrev pub with_places : Command → Result (List (List ℕ)) ℕ → Result Command ℕ
-with_places c (Ok places) = Ok c
-with_places c (Err k) = Err k
+-- a command whose operands name something
+abbrev pub with_operands : {X : Type 0} → Command → Result X ℕ → Result Command ℕ
+with_operands c (Ok named) = Ok c
+with_operands c (Err k) = Err k
 
--- The operands of a command, which begin at the word of this number, from 1: the places of `steps`. No other command has any.
+-- The operands of a command, which begin at the word of this number, from 1: the places of `steps`, or the rule of `explain`. No other
+-- command has any.
 abbrev pub operands : Verb → ℕ → ℕ → List Word → Result Command ℕ
-operands v workers at ws = with_places (record { verb = v; workers = workers }) (operand_places (most_operands v) at ws)
+operands v workers at ws =
+    if takes_rule v
+    then with_operands (record { verb = v; workers = workers }) (operand_text at ws)
+    else with_operands (record { verb = v; workers = workers }) (operand_places (most_operands v) at ws)
 
 -- a number of workers, and then operands
 abbrev pub counted : Verb → List Word → Result Command ℕ
@@ -146,6 +171,6 @@ abbrev pub operand_words : List Word → List Word
 operand_words [] = []
 operand_words (w ∷ ws) = behind_workers ws
 
--- operands that suit the command: so many places at most
+-- operands that suit the command: a rule at most, or so many places at most
 abbrev pub AreFit : Verb → List Word → Type 0
-AreFit v ops = IsOk (operand_places (most_operands v) 1 ops)
+AreFit v ops = MatchBool (takes_rule v) (IsOk (operand_text 1 ops)) (IsOk (operand_places (most_operands v) 1 ops))

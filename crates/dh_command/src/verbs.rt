@@ -1,7 +1,7 @@
 //! The commands of the command line.
 
 ghost use Rattle.std.specs.Prelude.{◌≡◌};
-ghost use Rattle.dh_command.specs.Words.{most_operands, reads};
+ghost use Rattle.dh_command.specs.Words.{most_operands, reads, takes_rule};
 
 use dh_steps::MOST_PLACES;
 
@@ -26,6 +26,8 @@ pub enum Verb {
     Freeze,
     /// The expression that the input spells after one step at each place that is named, and whether it is normal.
     Steps,
+    /// What a rule of typing wants, or which rules there are.
+    Explain,
     /// What the commands and the exit statuses are.
     Help,
     /// The versions of the program and of the standard.
@@ -41,7 +43,7 @@ impl Verb {
             Verb::Encode | Verb::Decode | Verb::Resolve => true,
             Verb::Type | Verb::Normalize | Verb::Hash | Verb::ToJson => true,
             Verb::Freeze | Verb::Steps => true,
-            Verb::Help | Verb::Version => false,
+            Verb::Explain | Verb::Help | Verb::Version => false,
         }
     }
 
@@ -52,6 +54,16 @@ impl Verb {
         match self {
             Verb::Steps => MOST_PLACES,
             _ => 0,
+        }
+    }
+
+    /// Whether the operand of the command is the number of a rule of typing.
+    pub fn takes_rule(self) -> bool
+        ensures { result ≡ takes_rule self }
+    {
+        match self {
+            Verb::Explain => true,
+            _ => false,
         }
     }
 }

@@ -25,6 +25,7 @@ files file
 answers 404 http://h/x
 cache 0000000000000000000000000000000000000000000000000000000000000000
   hex F5 0a
+narrow read err
 fail fetch 2 3
 input text [
   repeat 2 text x
@@ -51,9 +52,9 @@ rows hex bytes
 
 /// What they say.
 const READ: &str =
-    r#"Case { name: "file", line: 6, commands: [["type"]], then: [], files: [File { line: 8, location: "./a", found: Text { bytes: [97, 98, 10], allow: Some([104]) } }], cache: [], failing: Failing { read: [], out: [], err: [], fetch: [], look: [], keep: [] }, desks: 1, rows: [Row { line: 6, input: [], out: [], err: [], status: 0 }], asked: None, kept: [], keeps: None }
-Case { name: "whole", line: 12, commands: [["normalize", "--workers", "2"], ["a b"]], then: [["hash"]], files: [File { line: 8, location: "./a", found: Text { bytes: [97, 98, 10], allow: Some([104]) } }, File { line: 19, location: "http://h/x", found: Status(404) }], cache: [Entry { digest: [0, 0, 0, 0, 0, 0, 0, 0, 0, 0, 0, 0, 0, 0, 0, 0, 0, 0, 0, 0, 0, 0, 0, 0, 0, 0, 0, 0, 0, 0, 0, 0], bytes: [245, 10] }], failing: Failing { read: [], out: [], err: [], fetch: [2, 3], look: [], keep: [] }, desks: 3, rows: [Row { line: 12, input: [91, 120, 120, 57, 44, 49, 48, 44, 93, 10, 10, 92], out: [49, 10], err: [], status: 4 }], asked: Some(5), kept: [], keeps: Some(6) }
-Case { name: "rows", line: 32, commands: [["type"]], then: [], files: [], cache: [], failing: Failing { read: [], out: [], err: [], fetch: [], look: [], keep: [] }, desks: 1, rows: [Row { line: 40, input: [60, 120], out: [62, 66, 10], err: [], status: 0 }, Row { line: 41, input: [60, 121], out: [], err: [33, 122, 10], status: 3 }, Row { line: 43, input: [60, 97, 98], out: [62, 255], err: [], status: 0 }], asked: None, kept: [Entry { digest: [1, 1, 1, 1, 1, 1, 1, 1, 1, 1, 1, 1, 1, 1, 1, 1, 1, 1, 1, 1, 1, 1, 1, 1, 1, 1, 1, 1, 1, 1, 1, 1], bytes: [107] }], keeps: None }
+    r#"Case { name: "file", line: 6, commands: [["type"]], then: [], files: [File { line: 8, location: "./a", found: Text { bytes: [97, 98, 10], allow: Some([104]) } }], cache: [], narrow: Narrow { read: false, out: false, err: false }, failing: Failing { read: [], out: [], err: [], fetch: [], look: [], keep: [] }, desks: 1, rows: [Row { line: 6, input: [], out: [], err: [], status: 0 }], asked: None, kept: [], keeps: None }
+Case { name: "whole", line: 12, commands: [["normalize", "--workers", "2"], ["a b"]], then: [["hash"]], files: [File { line: 8, location: "./a", found: Text { bytes: [97, 98, 10], allow: Some([104]) } }, File { line: 19, location: "http://h/x", found: Status(404) }], cache: [Entry { digest: [0, 0, 0, 0, 0, 0, 0, 0, 0, 0, 0, 0, 0, 0, 0, 0, 0, 0, 0, 0, 0, 0, 0, 0, 0, 0, 0, 0, 0, 0, 0, 0], bytes: [245, 10] }], narrow: Narrow { read: true, out: false, err: true }, failing: Failing { read: [], out: [], err: [], fetch: [2, 3], look: [], keep: [] }, desks: 3, rows: [Row { line: 12, input: [91, 120, 120, 57, 44, 49, 48, 44, 93, 10, 10, 92], out: [49, 10], err: [], status: 4 }], asked: Some(5), kept: [], keeps: Some(6) }
+Case { name: "rows", line: 33, commands: [["type"]], then: [], files: [], cache: [], narrow: Narrow { read: false, out: false, err: false }, failing: Failing { read: [], out: [], err: [], fetch: [], look: [], keep: [] }, desks: 1, rows: [Row { line: 41, input: [60, 120], out: [62, 66, 10], err: [], status: 0 }, Row { line: 42, input: [60, 121], out: [], err: [33, 122, 10], status: 3 }, Row { line: 44, input: [60, 97, 98], out: [62, 255], err: [], status: 0 }], asked: None, kept: [Entry { digest: [1, 1, 1, 1, 1, 1, 1, 1, 1, 1, 1, 1, 1, 1, 1, 1, 1, 1, 1, 1, 1, 1, 1, 1, 1, 1, 1, 1, 1, 1, 1, 1], bytes: [107] }], keeps: None }
 "#;
 
 #[test]
@@ -93,6 +94,8 @@ fn refuses_lines(rt: HostRuntime) -> Result<(), Fail> {
         ("case a\nwords x\ninput\n  use b\n", 4, Fault::UnknownName),
         ("case a\nwords x\nfiles a\n", 3, Fault::UnknownCase),
         ("case a\nwords x\nfail reads 1\n", 3, Fault::UnknownDevice),
+        ("case a\nwords x\nnarrow keep\n", 3, Fault::UnknownDevice),
+        ("case a\nwords x\nnarrow out out\n", 3, Fault::Twice),
         ("case a\nwords x\nfail read one\n", 3, Fault::NotNumber),
         ("case a\nwords x\nstatus 256\n", 3, Fault::NotNumber),
         (

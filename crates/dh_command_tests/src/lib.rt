@@ -1,5 +1,5 @@
 //! Tests of what the cases of `dhall_cases` cannot say: files of cases that are refused, the program's streams and
-//! words, texts from servers on loopback, and workers beside each other.
+//! words, texts from servers on loopback, workers beside each other, and worlds that tell what they have.
 #![tactic(auto)]
 
 #[cfg(test)]
@@ -12,3 +12,5 @@ mod streams;
 mod web;
 #[cfg(test)]
 mod workers;
+#[cfg(test)]
+mod worlds;

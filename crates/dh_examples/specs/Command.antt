@@ -1,2 +1,3 @@
 pub mod AnswerExamples
+pub mod ExplainExamples
 pub mod ImportFaultExamples

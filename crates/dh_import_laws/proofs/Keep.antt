@@ -68,7 +68,7 @@ log-grown r r' g (cyc {l = l} {k = k} log (y, b, ring)) s =
 
 -- ---- flights
 
-task-unrecorded : (s : State) (t : Task) → TaskOf s t → IsUnrecorded s t
+pub task-unrecorded : (s : State) (t : Task) → TaskOf s t → IsUnrecorded s t
 task-unrecorded s (Look d) (looks {k = k} w e) = (unknown-told s.recorded (outcome_of s) k (LookOf d) e).1
 task-unrecorded s (Fetch l) (fetches {k = k} w e) = (unknown-told s.recorded (outcome_of s) k (TextOf l) e).2
 task-unrecorded s (Finish k) (finishes w d) = wanted-undecided w

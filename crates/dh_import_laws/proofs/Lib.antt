@@ -12,10 +12,12 @@ pub mod Grow
 pub mod Keep
 pub mod Kept
 pub mod Laws
+pub mod NoMemory
 pub mod OnceRecorded
 pub mod OnePath
 pub mod Plans
 pub mod Progress
+pub mod Reclaiming
 pub mod Sound
 pub mod Sources
 pub mod Visits

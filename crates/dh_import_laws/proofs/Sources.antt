@@ -67,10 +67,10 @@ pub data Source (r : Record) (ask : Ask) (b : Blame) : Type 0 where
 -- ---- walks
 
 -- a fault of a walk is one that it finds itself, or that of an outcome that is known
-abbrev Came : Ask → Blame → Type 0
+abbrev pub Came : Ask → Blame → Type 0
 Came ask b = IsOfWalks b.why ⊎ ((y : Key) × (ask y ≡ Some (Bad b)))
 
-abbrev Blames : {X : Type 0} → Ask → Walked X → Type 0
+abbrev pub Blames : {X : Type 0} → Ask → Walked X → Type 0
 Blames ask (Fails b) = Came ask b
 Blames ask _ = Unit {0}
 
@@ -114,7 +114,7 @@ walk_node-blames parent ask op r choosing (w ∷ x ∷ []) h = or_else-blames as
 walk_node-blames parent ask op r choosing (w ∷ x ∷ y ∷ ws) h = and_then-blames ask (in_order (w ∷ x ∷ y ∷ ws)) _ (in_order-blames ask (w ∷ x ∷ y ∷ ws) h) (λ es. tt)
 
 mutual
-  walk-blames : (parent : Option Key) (ask : Ask) (e : Term) → Blames ask (walk parent ask e)
+  pub walk-blames : (parent : Option Key) (ask : Ask) (e : Term) → Blames ask (walk parent ask e)
   walk-blames parent ask (Leaf v) = tt
   walk-blames parent ask (Node op r) = walk_node-blames parent ask op r (form_of op) _ (walks-blames parent ask r)
 
@@ -175,7 +175,7 @@ digest-says r k None = mode-says r k k.mode
 digest-says r k (Some d) = look-says r k d (look_at r d)
 
 -- what a stage says of the plan, and of the outcomes that are known
-abbrev StageSays : Record → Ask → Key → Plan → Stage → Type 0
+abbrev pub StageSays : Record → Ask → Key → Plan → Stage → Type 0
 StageSays r ask k p (Has (Fault b)) = IsOfKey r k b.why ⊎ Came ask b
 StageSays r ask k p (Has (Code x allow)) = (e : Term) × (p ≡ Walks e allow) × (walk (Some k) ask e ≡ Ready x)
 StageSays r ask k p _ = Unit {0}
@@ -203,23 +203,23 @@ plan-says r ask k (Now (Fault b)) h = inl h
 plan-says r ask k (Walks e allow) h = walk-says r ask k e allow (walk (Some k) ask e) refl (walk-blames (Some k) ask e)
 plan-says r ask k (Asks j) h = bare-says r ask k j (ask j) refl
 
-stage-says : (r : Record) (ask : Ask) (k : Key) → StageSays r ask k (plan r k) (stage r ask k)
+pub stage-says : (r : Record) (ask : Ask) (k : Key) → StageSays r ask k (plan r k) (stage r ask k)
 stage-says r ask k = plan-says r ask k (plan r k) (digest-says r k k.digest)
 
 -- ---- outcomes
 
-abbrev blame_in : Blame → Outcome → Blame
+abbrev pub blame_in : Blame → Outcome → Blame
 blame_in b (Good v o) = b
 blame_in b (Bad c) = c
 blame_in b (Loop j) = b
 
-abbrev IsBad : Outcome → Type 0
+abbrev pub IsBad : Outcome → Type 0
 IsBad (Good v o) = ⊥
 IsBad (Bad c) = Unit {0}
 IsBad (Loop j) = ⊥
 
 -- code that comes to a fault is refused
-code_ill : (k : Key) (x : Term) (allow : Option (List ℕ)) (b : Blame) → ComesOf k x allow (Bad b) → (f : Ill) × IsIll [] x f.path f.rule × (ill_blame k f ≡ b)
+pub code_ill : (k : Key) (x : Term) (allow : Option (List ℕ)) (b : Blame) → ComesOf k x allow (Bad b) → (f : Ill) × IsIll [] x f.path f.rule × (ill_blame k f ≡ b)
 code_ill k x allow b c = by_case (Bad b) c refl
   where
     by_case : (o : Outcome) → ComesOf k x allow o → o ≡ Bad b → (f : Ill) × IsIll [] x f.path f.rule × (ill_blame k f ≡ b)
@@ -227,7 +227,7 @@ code_ill k x allow b c = by_case (Bad b) c refl
     by_case o (ill {path = path} {number = number} i) q = (record { path = path; rule = number }, i, ap (blame_in b) q)
 
 -- a fault of this outcome is one of the key itself
-abbrev OutcomeSays : Record → Key → Outcome → Type 0
+abbrev pub OutcomeSays : Record → Key → Outcome → Type 0
 OutcomeSays r k (Good v o) = Unit {0}
 OutcomeSays r k (Bad b) = IsOfKey r k b.why
 OutcomeSays r k (Loop j) = Unit {0}
@@ -236,10 +236,10 @@ either-says : (r : Record) (k : Key) (t : Bool) (o p : Outcome) → OutcomeSays 
 either-says r k true o p h g = h
 either-says r k false o p h g = g
 
-text_outcome-says : (r : Record) (k : Key) (bytes : List ℕ) (allow : Option (List ℕ)) → OutcomeSays r k (text_outcome k bytes allow)
+pub text_outcome-says : (r : Record) (k : Key) (bytes : List ℕ) (allow : Option (List ℕ)) → OutcomeSays r k (text_outcome k bytes allow)
 text_outcome-says r k bytes allow = either-says r k (nat_lt most_bytes (length bytes)) _ _ tt (either-says r k (is_utf8 bytes) _ _ tt tt)
 
-compared-says : (r : Record) (k : Key) (d : Option Digest) (v : Term) (o : Origin) → OutcomeSays r k (compared k d v o)
+pub compared-says : (r : Record) (k : Key) (d : Option Digest) (v : Term) (o : Origin) → OutcomeSays r k (compared k d v o)
 compared-says r k None v o = tt
 compared-says r k (Some d) v o = either-says r k (digest_eq d (digest_of v)) _ _ tt tt
 

@@ -11,10 +11,10 @@ mod resolver;
 mod table;
 
 pub use resolver::{
-    code_comes_of, more_recorded, more_to_spend, one_list_of_keeps, one_outcome, one_path,
-    paths_by_location,
+    code_comes_of, more_recorded, more_to_spend, no_want_of_memory, one_list_of_keeps, one_outcome,
+    one_path, paths_by_location,
 };
 pub use table::{
-    claims_go_on, failures_are_recorded, faults_stand_in_texts, in_flight_once, only_wanted,
-    outcomes_are_resolved, recorded_once, records_are_true, steps_lose_nothing,
+    claimed_again, claims_go_on, failures_are_recorded, faults_stand_in_texts, in_flight_once,
+    only_wanted, outcomes_are_resolved, recorded_once, records_are_true, steps_lose_nothing,
 };

@@ -1,6 +1,7 @@
 //! Laws of the resolver of imports.
 ghost use Rattle.dh_import_laws.specs.ImportLaws.{OneOutcome, MoreToSpend, MoreRecorded, CodeComesOf, CodeComes, OneOutcomeOfCode, OneListOfKeeps};
 ghost use Rattle.dh_import_laws.specs.Paths.{ValuesByLocation, PathsByLocation, OnePath};
+ghost use Rattle.dh_import_laws.specs.WithoutMemory.{KeysNeedNone, RootsNeedNone};
 
 /// The resolver gives a key one outcome.
 pub fn one_outcome()
@@ -39,4 +40,10 @@ pub fn paths_by_location()
 /// By whichever of the resolver's outcomes a text has a value, it has the same value, and the ways back into it are the same.
 pub fn one_path()
     ensures { OnePath }
+{}
+
+/// Where no limit on record is want of memory, no fault that decides a key or the root is.
+pub fn no_want_of_memory()
+    ensures keys { KeysNeedNone }
+    ensures root { RootsNeedNone }
 {}

@@ -1,5 +1,6 @@
 //! Laws of the table that workers share.
 ghost use Rattle.dh_import_laws.specs.Blames.{FaultsStand, RootFaultsStand};
+ghost use Rattle.dh_import_laws.specs.Claims.{ReleasedBetween, FetchesByReleases};
 ghost use Rattle.dh_import_laws.specs.Failures.{FailuresAreRecorded, RootFailuresAreRecorded};
 ghost use Rattle.dh_import_laws.specs.ImportLaws.{OutcomesAreResolved, RootIsResolved, VisitsAreResolved, GoesOn, FetchesAreWanted, FrozenLeadAfterLooks, InFlightOnce, InFlightUnrecorded, InFlightDue, OutcomesStay, RootStays, TooManyStay, TextsAreParsed, EntriesAreGood, LimitsAreLicensed};
 ghost use Rattle.dh_import_laws.specs.Recorded.{TextsAreRecordedOnce, LooksAreRecordedOnce};
@@ -29,6 +30,13 @@ pub fn in_flight_once()
     ensures once { InFlightOnce }
     ensures unrecorded { InFlightUnrecorded }
     ensures due { InFlightDue }
+{}
+
+/// Between two claims of one task stands a release of the first. So the claims of fetches of one location are at most one more
+/// than the releases.
+pub fn claimed_again()
+    ensures released { ReleasedBetween }
+    ensures fetches { FetchesByReleases }
 {}
 
 /// A step changes no outcome and no end of the root, and keys that are too many stay so.

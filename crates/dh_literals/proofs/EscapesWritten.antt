@@ -1,13 +1,15 @@
--- A text as it is printed between double quotes, character by character.
-use Rattle.std.proofs.Common.{◌≡◌, ℕ, ◌-◌, ◌^◌, ◌<◌, ◌≤◌, ◌≢◌, ◌/◌, ◌%◌, true, false, if◌then◌else◌, List, [], ◌∷◌, ◌++◌, Option, Some, Result, Ok, Err, OnOk, codes, append_assoc, append-nil, refl, ap, sym, subst, ◌∙◌, arith}
-use lib.Utf8.{scalar, encode, encodes, scalar_cases}
-use Rattle.std.proofs.str.Laws.{Shape, shape, of1, of2, of3, of4, one, encodes-append}
+-- A text as it is printed between double quotes: runs of bytes that stand for themselves, and escapes between them.
+use Rattle.std.proofs.Common.{◌≡◌, ℕ, zero, suc, ◌-◌, ◌^◌, ◌<◌, ◌≤◌, ◌≢◌, ◌/◌, ◌%◌, true, false, List, [], ◌∷◌, ◌++◌, length, take, drop, slice_index, Option, None, Some, MatchOption, Result, OnOk, codes, append_assoc, take-append-drop, drop-cons, refl, ap, sym, subst, ◌∙◌, arith, ⊎_elim}
+use lib.Utf8.{scalar, encode, scalar_cases}
+use Rattle.std.proofs.str.Laws.{Shape, shape, of1, of2, of3, of4}
+use Rattle.std.proofs.lemmas.Bool.{cases_lt}
 use Rattle.std.proofs.lemmas.Bool.Decides.{nat_tests}
 use Rattle.std.proofs.lemmas.Fmt.{hex_byte}
+use Rattle.std.proofs.Math.Seq.{take-length}
 use Rattle.std.proofs.lemmas.Result.{on_ok_weaker}
 use Rattle.std.specs.Fmt.{AppendsText, ◌++?◌, digits, digit_glyph, digits_output, styled_digits_output, padded_integral, shown_prefix, radix_prefix, format_spec}
+use Rattle.std.specs.List.{AllWithin, HoldsAt}
 use Rattle.std.specs.Option.{option_map}
-use Rattle.std.specs.Result.{is_ok}
 use Rattle.std.specs.Str.{byte}
 use Rattle.dh_syntax.specs.Text.Literals.{escape, escape_byte, hex_digit}
 
@@ -49,20 +51,41 @@ written old new o bs e h =
     subst P e h
 
 -- a control character that has no letter, written by its number
-pub control_written : {E : Type 0} (c : ℕ) (old new : List ℕ) (r : Result (Unit {0}) E) (d : _) (s : _) → c < 32 → c ≢ 8 → c ≢ 12 → c ≢ 10 → c ≢ 13 → c ≢ 9 → digits_output d ≡ Some (digits 16 true c) → s ≡ format_spec 32 0 4 2 (2 ^ 64 - 1) → OnOk r (AppendsText old new (Some (codes "\\u00") ++? styled_digits_output d s)) → OnOk r (new ≡ old ++ escape (encode c))
-control_written {E} c old new r d s h n8 n12 n10 n13 n9 digits_are spec_is w =
-    let text : escape (encode c) ≡ codes "\\u00" ++ (digit_glyph true (c / 16) ∷ digit_glyph true (c % 16) ∷ []) =
-    ap escape (one c (omega arith)) ∙ append-nil (escape_byte c) ∙ control_byte c h n8 n12 n10 n13 n9 in
-    on_ok_weaker r (λ a. written old new (styled_digits_output d s) (digit_glyph true (c / 16) ∷ digit_glyph true (c % 16) ∷ []) (hex_output c d s (omega arith) digits_are spec_is) a ∙ ap (λ l. old ++ l) (sym text)) w
+pub control_written : {E : Type 0} (b : ℕ) (old new : List ℕ) (r : Result (Unit {0}) E) (d : _) (s : _) → b < 32 → b ≢ 8 → b ≢ 12 → b ≢ 10 → b ≢ 13 → b ≢ 9 → digits_output d ≡ Some (digits 16 true b) → s ≡ format_spec 32 0 4 2 (2 ^ 64 - 1) → OnOk r (AppendsText old new (Some (codes "\\u00") ++? styled_digits_output d s)) → OnOk r (new ≡ old ++ escape_byte b)
+control_written {E} b old new r d s h n8 n12 n10 n13 n9 digits_are spec_is w =
+    on_ok_weaker r (λ a. written old new (styled_digits_output d s) (digit_glyph true (b / 16) ∷ digit_glyph true (b % 16) ∷ []) (hex_output b d s (omega arith) digits_are spec_is) a ∙ ap (λ l. old ++ l) (sym (control_byte b h n8 n12 n10 n13 n9))) w
 
--- a character that stands for itself, pushed
-pub plain_pushed : {E : Type 0} (c : ℕ) (old new : List ℕ) (r : Result (Unit {0}) E) → scalar c ≡ true → 32 ≤ c → c ≢ byte "\"" → c ≢ byte "\\" → c ≢ byte "$" → new ≡ (if is_ok r then old ++ encode c else old) → OnOk r (new ≡ old ++ escape (encode c))
-plain_pushed c old new (Ok x) s low p q d e = e ∙ ap (λ l. old ++ l) (sym (plain_character c s low p q d))
-plain_pushed c old new (Err x) s low p q d e = tt
+-- ---- bytes that stand for themselves, and those that do not
 
--- one character more
-pub escaped_more : (text text' old done : List ℕ) (c : ℕ) → text ≡ old ++ escape (encodes done) → text' ≡ text ++ escape (encode c) → text' ≡ old ++ escape (encodes (done ++ c ∷ []))
-escaped_more text text' old done c e f =
-    let all : encodes (done ++ c ∷ []) ≡ encodes done ++ encode c = encodes-append done (c ∷ []) ∙ ap (λ l. encodes done ++ l) (append-nil (encode c)) in
-    f ∙ ap (λ l. l ++ escape (encode c)) e ∙ append_assoc old (escape (encodes done)) (escape (encode c))
-    ∙ ap (λ l. old ++ l) (sym (escape-append (encodes done) (encode c)) ∙ ap escape (sym all))
+abbrev pub IsPlain : ℕ → Type 0
+IsPlain b = escape_byte b ≡ b ∷ []
+
+abbrev pub IsEscaped : ℕ → Type 0
+IsEscaped b = escape_byte b ≢ b ∷ []
+
+pub escaped_control : (b : ℕ) → IsEscaped b → b ≢ byte "\"" → b ≢ byte "\\" → b ≢ byte "$" → b < 32
+escaped_control b h p q r = ⊎_elim (λ low. low) (λ high. absurd (h (plain_byte b high p q r))) (cases_lt b 32)
+
+pub escaped_ascii : (b : ℕ) → IsEscaped b → b < 128
+escaped_ascii b h = ⊎_elim (λ low. low) (λ high. absurd (h (plain_byte b (omega arith) (omega arith) (omega arith) (omega arith)))) (cases_lt b 128)
+
+plain_front : (bs : List ℕ) (n : ℕ) → n ≤ length bs → AllWithin IsPlain bs 0 n → escape (take n bs) ≡ take n bs
+plain_front bs zero low h = refl
+plain_front [] (suc n) low h = refl
+plain_front (b ∷ bs) (suc n) low h =
+    ap (λ l. l ++ escape (take n bs)) (h 0 0 (omega arith) (omega arith))
+    ∙ ap (λ l. b ∷ l) (plain_front bs n (omega arith) (λ k d from until. h (suc k) d (omega arith) (omega arith)))
+
+-- what a search for the first escaped byte tells
+pub first_escape : (bs : List ℕ) (r : Option ℕ) → MatchOption r (AllWithin IsPlain bs 0 (length bs)) (λ i. (i < length bs) × HoldsAt IsEscaped bs i × AllWithin IsPlain bs 0 i) → MatchOption r (escape bs ≡ bs) (λ i. (i < length bs) × (escape (take i bs) ≡ take i bs) × IsEscaped (slice_index bs i))
+first_escape bs None h = subst (λ l. escape l ≡ l) (take-length bs) (plain_front bs (length bs) (omega arith) h)
+first_escape bs (Some i) h = let low = h.0 in (low, plain_front bs i (omega arith) h.2, h.1 0)
+
+-- a run of plain bytes and the escaped one behind it, written
+pub run_written : (text one two rest next all : List ℕ) (i : ℕ) → i < length rest → escape (take i rest) ≡ take i rest → one ≡ text ++ take i rest → two ≡ one ++ escape_byte (slice_index rest i) → next ≡ drop (suc i) rest → text ++ escape rest ≡ all → two ++ escape next ≡ all
+run_written text one two rest next all i low plain first second behind so_far =
+    let b = slice_index rest i in
+    let split : rest ≡ take i rest ++ (b ∷ next) = sym (take-append-drop i rest) ∙ ap (λ l. take i rest ++ l) (drop-cons rest i 0 low ∙ ap (λ l. b ∷ l) (sym behind)) in
+    let whole : escape rest ≡ take i rest ++ (escape_byte b ++ escape next) = ap escape split ∙ escape-append (take i rest) (b ∷ next) ∙ ap (λ l. l ++ escape (b ∷ next)) plain in
+    ap (λ l. l ++ escape next) (second ∙ ap (λ l. l ++ escape_byte b) first) ∙ append_assoc (text ++ take i rest) (escape_byte b) (escape next) ∙ append_assoc text (take i rest) (escape_byte b ++ escape next)
+    ∙ ap (λ l. text ++ l) (sym whole) ∙ so_far

@@ -1,7 +1,8 @@
 //! Texts between double quotes, printed.
 
-ghost use Rattle.std.specs.Prelude.{◌≡◌, ◌++◌, string_bytes, encode_utf8, IfOk, OnOk};
-ghost use Rattle.dh_syntax.specs.Text.Literals.{escape};
+ghost use Rattle.std.specs.Prelude.{◌≡◌, ◌≢◌, ◌<◌, ◌++◌, [], ◌∷◌, length, take, slice_index, string_bytes, IfOk, MatchOption, OnOk};
+ghost use Rattle.std.specs.Bool.{MatchBool};
+ghost use Rattle.dh_syntax.specs.Text.Literals.{escape, escape_byte};
 
 use dh_syntax::Piece;
 use std::alloc::{AllocError, Global};
@@ -19,27 +20,49 @@ pub fn escape(alloc: Global, piece: &Piece) -> Result<Piece, AllocError>
 pub fn push_escaped(text: &mut String, piece: &Piece) -> Result<(), AllocError>
     ensures { OnOk result (string_bytes text.new ≡ string_bytes text.old ++ escape piece.now) }
 {
-    for c in piece.as_str().chars() {
-        push_character(text, c)?;
-    }
-    Ok(())
+    push_escaped_str(text, piece.as_str())
 }
 
-fn push_character(text: &mut String, c: char) -> Result<(), AllocError>
-    ensures { OnOk result (string_bytes text.new
-        ≡ string_bytes text.old ++ escape (encode_utf8 c)) }
+/// The same, of a text that is borrowed.
+pub fn push_escaped_str(text: &mut String, plain: &str) -> Result<(), AllocError>
+    ensures { OnOk result (string_bytes text.new ≡ string_bytes text.old ++ escape plain.now) }
 {
-    match c {
-        '"' => text.push_str("\\\""),
-        '\\' => text.push_str("\\\\"),
-        '$' => text.push_str("\\$"),
-        '\u{8}' => text.push_str("\\b"),
-        '\u{c}' => text.push_str("\\f"),
-        '\n' => text.push_str("\\n"),
-        '\r' => text.push_str("\\r"),
-        '\t' => text.push_str("\\t"),
-        _ if c < ' ' => write!(text, "\\u00{:02X}", c as u8),
-        _ => text.push(c),
+    let mut rest = plain;
+    while let Some(at) = first_escaped(rest) {
+        text.push_str(&rest[..at])?;
+        push_escape(text, rest.as_bytes()[at])?;
+        rest = &rest[at + 1..];
+    }
+    text.push_str(rest)
+}
+
+/// The place of the first byte that is printed by an escape.
+fn first_escaped(text: &str) -> Option<usize>
+    ensures { MatchOption result (escape text.now ≡ text.now) (λ i. (i < length text.now) × (escape (take i text.now) ≡ take i text.now) × (escape_byte (slice_index text.now i) ≢ slice_index text.now i ∷ [])) }
+{
+    text.as_bytes().iter().position(|byte| is_escaped(*byte))
+}
+
+fn is_escaped(byte: u8) -> bool
+    ensures { MatchBool result (escape_byte byte ≢ byte ∷ []) (escape_byte byte ≡ byte ∷ []) }
+{
+    byte < b' ' || matches!(byte, b'"' | b'\\' | b'$')
+}
+
+fn push_escape(text: &mut String, byte: u8) -> Result<(), AllocError>
+    requires { escape_byte byte ≢ byte ∷ [] }
+    ensures { OnOk result (string_bytes text.new ≡ string_bytes text.old ++ escape_byte byte) }
+{
+    match byte {
+        b'"' => text.push_str("\\\""),
+        b'\\' => text.push_str("\\\\"),
+        b'$' => text.push_str("\\$"),
+        0x08 => text.push_str("\\b"),
+        0x0C => text.push_str("\\f"),
+        b'\n' => text.push_str("\\n"),
+        b'\r' => text.push_str("\\r"),
+        b'\t' => text.push_str("\\t"),
+        _ => write!(text, "\\u00{byte:02X}"),
     }
 }
 

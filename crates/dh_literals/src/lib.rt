@@ -19,7 +19,7 @@ pub mod laws;
 mod numbers;
 
 pub use escapes::{read_escape, unescape};
-pub use escaping::{escape, push_escaped};
+pub use escaping::{escape, push_escaped, push_escaped_str};
 pub use faults::LitFault;
 pub use indentation::unindent;
 pub use numbers::{

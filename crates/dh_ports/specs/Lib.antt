@@ -4,3 +4,4 @@ pub mod MemDesk
 pub mod MemDeskViews
 pub mod MemFeed
 pub mod MemSink
+pub mod Moves

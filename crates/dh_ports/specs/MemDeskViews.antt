@@ -6,23 +6,23 @@ use Rattle.dh_ports.specs.declared.mem_desks.CacheEntry.{CacheEntry}
 use Rattle.dh_ports.specs.declared.mem_desks.Content.{Content}
 use Rattle.dh_ports.specs.declared.mem_desks.MemDesk.{MemDesk}
 
-abbrev pub contents_of : MemDesk → List Content
+abbrev pub contents_of : {W : _} {world : _} → MemDesk W world → List Content
 contents_of d = d.contents
 
-abbrev pub cache_of : MemDesk → List CacheEntry
+abbrev pub cache_of : {W : _} {world : _} → MemDesk W world → List CacheEntry
 cache_of d = d.cache
 
-abbrev pub kept_of : MemDesk → List CacheEntry
+abbrev pub kept_of : {W : _} {world : _} → MemDesk W world → List CacheEntry
 kept_of d = d.kept
 
 -- the calls of each kind that were made, and which fail
-abbrev pub fetches_of : MemDesk → Calls
+abbrev pub fetches_of : {W : _} {world : _} → MemDesk W world → Calls
 fetches_of d = d.fetches
 
-abbrev pub looks_of : MemDesk → Calls
+abbrev pub looks_of : {W : _} {world : _} → MemDesk W world → Calls
 looks_of d = d.looks
 
-abbrev pub keeps_of : MemDesk → Calls
+abbrev pub keeps_of : {W : _} {world : _} → MemDesk W world → Calls
 keeps_of d = d.keeps
 
 -- whether the next call of a kind is to fail
@@ -30,5 +30,5 @@ abbrev pub IsDue : Calls → Type 0
 IsDue calls = Contains calls.fails (one_more calls.made)
 
 -- what is found outside, and what the cache has, stay as they are
-abbrev pub SameOutside : MemDesk → MemDesk → Type 0
+abbrev pub SameOutside : {W : _} {world : _} → MemDesk W world → MemDesk W world → Type 0
 SameOutside old new = (contents_of new ≡ contents_of old) × (cache_of new ≡ cache_of old)

@@ -1,10 +1,12 @@
 -- What contracts see of a feed in memory, and what a read does to it.
-use Rattle.std.specs.Prelude.{◌≡◌, ℕ, List, drop}
+use Rattle.std.specs.Prelude.{◌≡◌, Bool, ℕ, List, drop}
 use Rattle.dh_ports.specs.Counts.{one_more}
 
--- the bytes that are left, the numbers from 1 of the calls that fail, and how many calls were made and failed
+-- the bytes that are left, whether a call gives at most one of them, the numbers from 1 of the calls that fail, and how
+-- many calls were made and failed
 pub record FeedState : Type 0 where
   pub left : List ℕ
+  pub narrow : Bool
   pub fails : List ℕ
   pub calls : ℕ
   pub faults : ℕ

@@ -1,10 +1,12 @@
 -- What contracts see of a sink in memory, and what a write does to it.
-use Rattle.std.specs.Prelude.{◌≡◌, ℕ, List, ◌++◌}
+use Rattle.std.specs.Prelude.{◌≡◌, Bool, ℕ, List, ◌++◌}
 use Rattle.dh_ports.specs.Counts.{one_more}
 
--- the bytes written, the numbers from 1 of the calls that fail, and how many calls were made and failed
+-- the bytes written, whether a call takes at most one, the numbers from 1 of the calls that fail, and how many calls were
+-- made and failed
 pub record SinkState : Type 0 where
   pub written : List ℕ
+  pub narrow : Bool
   pub fails : List ℕ
   pub calls : ℕ
   pub faults : ℕ

@@ -3,7 +3,7 @@
 //!
 //! A [`Feed`] gives bytes and a [`Sink`] takes them. Each may tell what it has left or has taken, so that contracts can speak
 //! of it, and counts its failed calls: a call that fails changes nothing else. [`MemFeed`] and [`MemSink`] fail exactly at the
-//! calls that they are told to, for tests of what a run does when a device fails.
+//! calls that they are told to, for tests of what a run does when a device fails. A narrow one moves one byte a call.
 //!
 //! ```text
 //! let mut feed = MemFeed::new(alloc, bytes, failing_calls);
@@ -15,9 +15,11 @@ mod calls;
 mod desks;
 mod feeds;
 mod gates;
+mod list_worlds;
 mod mem_desks;
 mod mem_feeds;
 mod mem_sinks;
+mod moves;
 mod sinks;
 mod worlds;
 
@@ -25,6 +27,7 @@ pub use calls::CallList;
 pub use desks::{Desk, DeskError};
 pub use feeds::{Feed, ReadError};
 pub use gates::{Gate, HoldGate, OpenGate};
+pub use list_worlds::{ListWorld, Listed};
 pub use mem_desks::{Cache, CacheEntry, Content, Contents, DeskFails, MemDesk, are_short};
 pub use mem_feeds::MemFeed;
 pub use mem_sinks::MemSink;

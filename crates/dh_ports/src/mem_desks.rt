@@ -5,15 +5,18 @@ ghost use Rattle.std.specs.Option.{option_copied};
 ghost use Rattle.dh_syntax.specs.Expressions.SameTree.{loc_eq, digest_eq};
 ghost use Rattle.dh_syntax.specs.Limits.{most_entry_bytes};
 ghost use Rattle.dh_ports.specs.Counts.{one_more, Rose};
-ghost use Rattle.dh_ports.specs.Desks.{IsShort};
-ghost use Rattle.dh_ports.specs.MemDesk.{listed, listed_entry, pairs_of};
+ghost use Rattle.std.specs.Coded.{codes};
+ghost use Rattle.dh_ports.specs.Desks.{IsShort, Tells, shown};
+ghost use Rattle.dh_ports.specs.MemDesk.{listed, listed_entry, pairs_of, AreTold, AreShelved};
+ghost use Rattle.dh_ports.specs.contracts.worlds.Got as rows;
 
 use crate::calls::{CallList, Calls};
 use crate::desks::{Desk, DeskError};
-use crate::worlds::{Found, Got, Silent};
+use crate::worlds::{Found, Got, Silent, World};
 use dh_syntax::{Bytes, Digest, Loc, MOST_BYTES, MOST_ENTRY_BYTES, Many};
 use dh_terms::is_same_loc;
 use std::alloc::{AllocError, Global};
+use std::marker::PhantomData;
 
 /// What is found at a location.
 #[derive(Debug, Drop)]
@@ -71,8 +74,8 @@ impl Got {
 }
 
 /// A desk over lists in memory, some of whose calls may be set to fail. What it keeps goes into a list of its own, which no
-/// look reads. It tells nothing of the outside: its own clauses say what it answers.
-pub struct MemDesk {
+/// look reads. Its world may tell what is listed, or nothing: its own clauses say what it answers.
+pub struct MemDesk<W: World = Silent> {
     alloc: Global,
     contents: Contents,
     cache: Cache,
@@ -82,11 +85,14 @@ pub struct MemDesk {
     keeps: Calls,
     asked: u64,
     failed: u64,
+    world: PhantomData<W>,
     ghost short: { All (λ c. IsShort c.got) contents },
+    ghost told: { AreTold W.told contents } by { Prim.hlevel (codes, rows.the_row.coded) },
+    ghost shelved: { AreShelved W.shelved cache },
 }
 
 // Written by hand: a derived one puts the drop of each field inline wherever one may die.
-impl Drop for MemDesk {
+impl<W: World> Drop for MemDesk<W> {
     fn drop(self) {
         let MemDesk {
             alloc: _,
@@ -98,6 +104,7 @@ impl Drop for MemDesk {
             keeps: _,
             asked: _,
             failed: _,
+            world: _,
         } = self;
     }
 }
@@ -173,12 +180,28 @@ fn bytes_at(alloc: Global, entries: &[CacheEntry], d: &Digest) -> Result<Option<
     }
 }
 
-impl MemDesk {
+impl MemDesk<Silent> {
     ghost use Rattle.dh_ports.specs.MemDeskViews.{contents_of, cache_of, kept_of};
 
-    /// A desk over these lists, whose calls fail that `fails` lists. It takes no memory.
-    pub fn new(alloc: Global, contents: Contents, cache: Cache, fails: DeskFails) -> MemDesk
+    /// A desk over these lists, whose calls fail that `fails` lists, in a world that tells nothing. It takes no memory.
+    pub fn new(alloc: Global, contents: Contents, cache: Cache, fails: DeskFails) -> MemDesk<Silent>
         requires { All (λ c. IsShort c.got) contents }
+        ensures contents { contents_of result ≡ contents }
+        ensures cache { cache_of result ≡ cache }
+        ensures kept { kept_of result ≡ [] }
+    {
+        MemDesk::<Silent>::over(alloc, contents, cache, fails)
+    }
+}
+
+impl<W: World> MemDesk<W> {
+    ghost use Rattle.dh_ports.specs.MemDeskViews.{contents_of, cache_of, kept_of};
+
+    /// The same in a world that tells, where it tells, what the lists have.
+    pub fn over(alloc: Global, contents: Contents, cache: Cache, fails: DeskFails) -> MemDesk<W>
+        requires short { All (λ c. IsShort c.got) contents }
+        requires told { AreTold W.told contents }
+        requires shelved { AreShelved W.shelved cache }
         ensures contents { contents_of result ≡ contents }
         ensures cache { cache_of result ≡ cache }
         ensures kept { kept_of result ≡ [] }
@@ -194,6 +217,7 @@ impl MemDesk {
             keeps: Calls::new(keep),
             asked: 0,
             failed: 0,
+            world: PhantomData,
         }
     }
 
@@ -219,7 +243,7 @@ impl MemDesk {
     }
 }
 
-impl Desk<Silent> for MemDesk {
+impl<W: World> Desk<W> for MemDesk<W> {
     ghost use Rattle.dh_ports.specs.MemDeskViews.{contents_of, cache_of, kept_of, fetches_of, looks_of, keeps_of, IsDue, SameOutside};
 
     ghost faults = { λ d. d.failed };
@@ -232,6 +256,7 @@ impl Desk<Silent> for MemDesk {
     fn fetch(&mut self, alloc: Global, loc: &Loc) -> Result<Got, DeskError>
         ensures fails { (result ≡ Err DeskError.Failed) ↔ IsDue (fetches_of self.old) }
         ensures found { IfOk result (λ got. got ≡ listed (contents_of self.old) loc.now) }
+        ensures told { IfOk result (λ got. Tells (W.told loc.now) got) }
         ensures outside { SameOutside self.old self.new }
         ensures short { IfOk result IsShort }
         ensures filed { kept_of self.new ≡ kept_of self.old }
@@ -253,6 +278,7 @@ impl Desk<Silent> for MemDesk {
     fn look(&mut self, alloc: Global, d: &Digest) -> Result<Option<Bytes>, DeskError>
         ensures fails { (result ≡ Err DeskError.Failed) ↔ IsDue (looks_of self.old) }
         ensures found { IfOk result (λ entry. entry ≡ listed_entry (cache_of self.old) d.now) }
+        ensures told { IfOk result (λ entry. Tells (option_map shown (W.shelved d.now)) entry) }
         ensures outside { SameOutside self.old self.new }
         ensures small { IfOk result (λ entry. IfSome entry (λ bytes. length bytes ≤ most_entry_bytes)) }
         ensures filed { kept_of self.new ≡ kept_of self.old }

@@ -1,11 +1,13 @@
 //! A feed in memory.
 
-ghost use Rattle.std.specs.Prelude.{◌≡◌, ◌≤◌, ◌++◌, Some, length, min, take, drop, Contains, IsErr, IfOk, OnErr, ◌↔◌};
+ghost use Rattle.std.specs.Prelude.{◌≡◌, ◌≤◌, ◌++◌, Some, true, false, length, min, take, drop, Contains, IsErr, IfOk, OnErr, ◌↔◌};
 ghost use Rattle.dh_ports.specs.Counts.{one_more, Rose};
 ghost use Rattle.dh_ports.specs.MemFeed.{HasRead, HasFailed};
+ghost use Rattle.dh_ports.specs.Moves.{moved};
 
 use crate::calls::{CallList, Calls};
 use crate::feeds::{Feed, ReadError};
+use crate::moves::moved;
 use dh_syntax::Bytes;
 use std::alloc::Global;
 use std::marker::Model;
@@ -15,6 +17,7 @@ use std::marker::Model;
 pub struct MemFeed {
     bytes: Bytes,
     at: usize,
+    narrow: bool,
     calls: Calls,
 }
 
@@ -24,6 +27,7 @@ impl Drop for MemFeed {
         let MemFeed {
             bytes: _,
             at: _,
+            narrow: _,
             calls: _,
         } = self;
     }
@@ -37,6 +41,7 @@ impl Model for MemFeed {
 
     ghost view = { λ f. record {
       left = drop f.at f.bytes;
+      narrow = f.narrow;
       fails = f.calls.fails;
       calls = f.calls.made;
       faults = f.calls.failed;
@@ -49,6 +54,7 @@ impl MemFeed {
     /// A feed of these bytes, whose calls fail that `fails` lists. It takes no memory.
     pub fn new(_alloc: Global, bytes: Bytes, fails: CallList) -> MemFeed
         ensures left { result.left ≡ bytes }
+        ensures narrow { result.narrow ≡ false }
         ensures fails { result.fails ≡ fails }
         ensures no_call { result.calls ≡ 0 }
         ensures no_fault { result.faults ≡ 0 }
@@ -56,6 +62,23 @@ impl MemFeed {
         MemFeed {
             bytes,
             at: 0,
+            narrow: false,
+            calls: Calls::new(fails),
+        }
+    }
+
+    /// The same, but a call gives at most one byte.
+    pub fn narrow(_alloc: Global, bytes: Bytes, fails: CallList) -> MemFeed
+        ensures left { result.left ≡ bytes }
+        ensures narrow { result.narrow ≡ true }
+        ensures fails { result.fails ≡ fails }
+        ensures no_call { result.calls ≡ 0 }
+        ensures no_fault { result.faults ≡ 0 }
+    {
+        MemFeed {
+            bytes,
+            at: 0,
+            narrow: true,
             calls: Calls::new(fails),
         }
     }
@@ -73,10 +96,11 @@ impl Feed for MemFeed {
 
     ghost faults = { λ f. f.faults };
 
-    /// Fails exactly where the number of this call is listed, and else gives as many bytes as fit.
+    /// Fails exactly where the number of this call is listed, and else gives as many bytes as fit, but one at most where the
+    /// feed is narrow.
     fn read(&mut self, into: &mut [u8]) -> Result<usize, ReadError>
         ensures fails { IsErr result ↔ Contains self.old.fails (one_more self.old.calls) }
-        ensures count { IfOk result (λ n. n ≡ min (length into.old) (length self.old.left)) }
+        ensures count { IfOk result (λ n. n ≡ moved self.old.narrow (min (length into.old) (length self.old.left))) }
         ensures given { IfOk result (λ n. into.new ≡ take n self.old.left ++ drop n into.old) }
         ensures rest { IfOk result (λ n. HasRead self.old self.new n) }
         ensures err { OnErr result (HasFailed self.old self.new) }
@@ -89,7 +113,7 @@ impl Feed for MemFeed {
             return Err(ReadError::Failed);
         }
         let left = &self.bytes.as_slice()[self.at..];
-        let count = left.len().min(into.len());
+        let count = moved(self.narrow, left.len().min(into.len()));
         into[..count].copy_from_slice(&left[..count]);
         self.at += count;
         Ok(count)
@@ -116,6 +140,27 @@ mod tests {
             assert_eq!(rt; into, want);
         }
         assert_eq!(rt; feed.fault_count(), 0);
+        Ok(())
+    }
+
+    #[test]
+    fn a_narrow_one_gives_one_byte_a_call(rt: HostRuntime) -> Result<(), Fail> {
+        let bytes = Bytes::of([1, 2].to_vec(rt.alloc())?);
+        let fails = Many::of([2].to_vec(rt.alloc())?);
+        let mut feed = MemFeed::narrow(rt.alloc(), bytes, fails);
+        assert_eq!(rt; read(&mut feed, &mut []), Ok(0));
+        let failed = Err(ReadError::Failed);
+        for (answer, want) in [
+            (failed, [0, 0]),
+            (Ok(1), [1, 0]),
+            (Ok(1), [2, 0]),
+            (Ok(0), [0, 0]),
+        ] {
+            let mut into = [0; 2];
+            assert_eq!(rt; read(&mut feed, &mut into), answer);
+            assert_eq!(rt; into, want);
+        }
+        assert_eq!(rt; feed.fault_count(), 1);
         Ok(())
     }
 

@@ -1,10 +1,12 @@
 //! A sink in memory.
 
-ghost use Rattle.std.specs.Prelude.{◌≡◌, [], ◌<◌, ◌≤◌, length, Some, Contains, IsErr, IfOk, OnOk, OnErr, ◌⊎◌};
+ghost use Rattle.std.specs.Prelude.{◌≡◌, [], ◌<◌, ◌≤◌, length, take, Some, true, false, Contains, IsErr, IfOk, OnErr, ◌⊎◌};
 ghost use Rattle.dh_ports.specs.Counts.{one_more, Rose};
 ghost use Rattle.dh_ports.specs.MemSink.{HasWritten, HasFailed};
+ghost use Rattle.dh_ports.specs.Moves.{moved};
 
 use crate::calls::{CallList, Calls};
+use crate::moves::moved;
 use crate::sinks::{Sink, WriteError};
 use std::alloc::Global;
 use std::marker::Model;
@@ -13,13 +15,18 @@ use std::marker::Model;
 #[derive(Debug)]
 pub struct MemSink {
     bytes: Vec<u8>,
+    narrow: bool,
     calls: Calls,
 }
 
 // Written by hand: a derived one puts the drop of each field inline wherever one may die.
 impl Drop for MemSink {
     fn drop(self) {
-        let MemSink { bytes: _, calls: _ } = self;
+        let MemSink {
+            bytes: _,
+            narrow: _,
+            calls: _,
+        } = self;
     }
 }
 
@@ -30,6 +37,7 @@ impl Model for MemSink {
 
     ghost view = { λ s. record {
       written = s.bytes.items;
+      narrow = s.narrow;
       fails = s.calls.fails;
       calls = s.calls.made;
       faults = s.calls.failed;
@@ -40,12 +48,29 @@ impl MemSink {
     /// An empty sink, whose calls fail that `fails` lists. It takes no memory.
     pub fn new(alloc: Global, fails: CallList) -> MemSink
         ensures written { result.written ≡ [] }
+        ensures narrow { result.narrow ≡ false }
         ensures fails { result.fails ≡ fails }
         ensures no_call { result.calls ≡ 0 }
         ensures no_fault { result.faults ≡ 0 }
     {
         MemSink {
             bytes: Vec::new(alloc),
+            narrow: false,
+            calls: Calls::new(fails),
+        }
+    }
+
+    /// The same, but a call takes at most one byte.
+    pub fn narrow(alloc: Global, fails: CallList) -> MemSink
+        ensures written { result.written ≡ [] }
+        ensures narrow { result.narrow ≡ true }
+        ensures fails { result.fails ≡ fails }
+        ensures no_call { result.calls ≡ 0 }
+        ensures no_fault { result.faults ≡ 0 }
+    {
+        MemSink {
+            bytes: Vec::new(alloc),
+            narrow: true,
             calls: Calls::new(fails),
         }
     }
@@ -70,24 +95,26 @@ impl Sink for MemSink {
 
     ghost faults = { λ s. s.faults };
 
-    /// Fails where the number of this call is listed, or where memory is wanting to keep the piece, and else takes
-    /// the whole piece.
+    /// Fails where the number of this call is listed, or where memory is wanting to keep the bytes, and else takes
+    /// the whole piece, but one byte at most where the sink is narrow.
     fn write(&mut self, bytes: &[u8]) -> Result<usize, WriteError>
         ensures fails { Contains self.old.fails (one_more self.old.calls) → IsErr result }
         // Memory can only be wanting for a piece that has bytes.
         ensures fails_only { OnErr result
             (Contains self.old.fails (one_more self.old.calls) ⊎ (0 < length bytes.now)) }
-        ensures count { IfOk result (λ n. n ≡ length bytes.now) }
-        ensures taken { OnOk result (HasWritten self.old self.new bytes.now) }
+        ensures count { IfOk result (λ n. n ≡ moved self.old.narrow (length bytes.now)) }
+        ensures taken { IfOk result (λ n. HasWritten self.old self.new (take n bytes.now)) }
         ensures err { OnErr result (HasFailed self.old self.new) }
         ensures counted { self.old.faults ≤ self.new.faults }
         ensures failed { OnErr result (Rose self.old.faults self.new.faults) }
     {
-        if self.calls.next_fails() || self.bytes.extend_from_slice(bytes).is_err() {
+        let count = moved(self.narrow, bytes.len());
+        let front = &bytes[..count];
+        if self.calls.next_fails() || self.bytes.extend_from_slice(front).is_err() {
             self.calls.count_failure();
             return Err(WriteError::Failed);
         }
-        Ok(bytes.len())
+        Ok(count)
     }
 }
 
@@ -109,6 +136,19 @@ mod tests {
         assert_eq!(rt; write(&mut sink, &[3, 4]), Ok(2));
         assert_eq!(rt; write(&mut sink, &[5]), Ok(1));
         assert_eq!(rt; sink.written_bytes(), [3, 4, 5].as_slice());
+        assert_eq!(rt; sink.fault_count(), 1);
+        Ok(())
+    }
+
+    #[test]
+    fn a_narrow_one_takes_one_byte_a_call(rt: HostRuntime) -> Result<(), Fail> {
+        let fails = Many::of([3].to_vec(rt.alloc())?);
+        let mut sink = MemSink::narrow(rt.alloc(), fails);
+        assert_eq!(rt; write(&mut sink, &[1, 2]), Ok(1));
+        assert_eq!(rt; write(&mut sink, &[]), Ok(0));
+        assert_eq!(rt; write(&mut sink, &[2, 3]), Err(WriteError::Failed));
+        assert_eq!(rt; write(&mut sink, &[2, 3]), Ok(1));
+        assert_eq!(rt; sink.written_bytes(), [1, 2].as_slice());
         assert_eq!(rt; sink.fault_count(), 1);
         Ok(())
     }

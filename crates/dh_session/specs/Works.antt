@@ -22,6 +22,10 @@ FreesLate old new = new.releases + old.lates ≤ old.releases + new.lates
 abbrev pub Delivers : Held → Held → Type 0
 Delivers old new = new.claims + old.kept + old.lates ≡ old.claims + new.kept + new.lates
 
+-- each ticket that was claimed was delivered and kept, or was given back
+abbrev pub GivesBack : Held → Held → Type 0
+GivesBack old new = new.claims + old.kept + old.returns ≡ old.claims + new.kept + new.returns
+
 -- a worker that ended for want of memory did not find the run over, and gave back at most one ticket more
 abbrev pub EndsEarly : Held → Held → Type 0
 EndsEarly old new = (new.overs ≡ old.overs) × (new.releases + old.lates ≤ old.releases + new.lates + 1)

@@ -6,7 +6,7 @@ ghost use Rattle.dh_shared.specs.Turns.{Brings};
 ghost use Rattle.dh_table.specs.Works.{IsFitWork};
 ghost use Rattle.dh_work.specs.Brings.{IsTextAt, TellsFailure};
 ghost use Rattle.dh_session.specs.Inside.{asked_after, failures_told, overs_by, AsksOnce, IsNewsOf};
-ghost use Rattle.dh_session.specs.Works.{Asks, Delivers, Fails, FreesLate, EndsEarly};
+ghost use Rattle.dh_session.specs.Works.{Asks, Delivers, Fails, FreesLate, GivesBack, EndsEarly};
 
 use dh_ports::{Desk, Gate, World};
 use dh_shared::{Counted, Rooted, Seat, SharedTable, Turn};
@@ -80,6 +80,7 @@ fn hand_in<T: Wait, W: World, Q: Rooted, N: Counted>(
     ensures frees { OnOk result (FreesLate seat.old.shares seat.new.shares) }
     ensures early { OnErr result (EndsEarly seat.old.shares seat.new.shares) }
     ensures delivers { OnOk result (seat.new.shares.kept + seat.new.shares.lates ≡ seat.old.shares.kept + seat.old.shares.lates + 1) }
+    ensures returns { seat.new.shares.kept + seat.new.shares.returns ≡ seat.old.shares.kept + seat.old.shares.returns + 1 }
     ensures claims { seat.new.shares.claims ≡ seat.old.shares.claims }
     ensures fetches { seat.new.shares.fetches ≡ seat.old.shares.fetches }
     ensures overs { seat.new.shares.overs ≡ seat.old.shares.overs }
@@ -118,6 +119,7 @@ fn carry_out<T: Wait, W: World, D: Desk<W>, G: Gate, Q: Rooted, N: Counted>(
     ensures frees { OnOk result (FreesLate seat.old.shares seat.new.shares) }
     ensures early { OnErr result (EndsEarly seat.old.shares seat.new.shares) }
     ensures delivers { OnOk result (seat.new.shares.kept + seat.new.shares.lates ≡ seat.old.shares.kept + seat.old.shares.lates + 1) }
+    ensures returns { seat.new.shares.kept + seat.new.shares.returns ≡ seat.old.shares.kept + seat.old.shares.returns + 1 }
     ensures claims { seat.new.shares.claims ≡ seat.old.shares.claims }
     ensures fetches { seat.new.shares.fetches ≡ seat.old.shares.fetches }
     ensures overs { seat.new.shares.overs ≡ seat.old.shares.overs }
@@ -145,6 +147,7 @@ fn take_turn<T: Wait, W: World, D: Desk<W>, G: Gate, Q: Rooted, N: Counted>(
     ensures early { OnErr result (EndsEarly seat.old.shares seat.new.shares) }
     ensures frees { OnOk result (FreesLate seat.old.shares seat.new.shares) }
     ensures delivers { OnOk result (Delivers seat.old.shares seat.new.shares) }
+    ensures returns { GivesBack seat.old.shares seat.new.shares }
     ensures asks { OnOk result (AsksOnce (D.asked desk.old) (D.asked desk.new) seat.old.shares seat.new.shares) }
     ensures fails { Fails (D.faults desk.old) (D.faults desk.new) seat.old.shares seat.new.shares }
     ensures filed { D.filed desk.new ≡ D.filed desk.old }
@@ -176,6 +179,7 @@ pub fn worker<T: Wait, W: World, D: Desk<W>, G: Gate, Q: Rooted, N: Counted>(
     ensures early { OnErr result (EndsEarly seat.old.shares seat.new.shares) }
     ensures frees { OnOk result (FreesLate seat.old.shares seat.new.shares) }
     ensures delivers { OnOk result (Delivers seat.old.shares seat.new.shares) }
+    ensures returns { GivesBack seat.old.shares seat.new.shares }
     ensures asks { OnOk result (Asks (D.asked desk.old) (D.asked desk.new) seat.old.shares seat.new.shares) }
     ensures fails { Fails (D.faults desk.old) (D.faults desk.new) seat.old.shares seat.new.shares }
     ensures filed { D.filed desk.new ≡ D.filed desk.old }

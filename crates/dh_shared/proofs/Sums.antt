@@ -17,6 +17,7 @@ pub record AddsUp (all : Held) (rest : List Held) (total : List Held) : Type 0 w
   pub fetches : all.fetches + sum_by (λ (h : Held). h.fetches) rest ≡ sum_by (λ (h : Held). h.fetches) total
   pub failed : all.failed + sum_by (λ (h : Held). h.failed) rest ≡ sum_by (λ (h : Held). h.failed) total
   pub overs : all.overs + sum_by (λ (h : Held). h.overs) rest ≡ sum_by (λ (h : Held). h.overs) total
+  pub returns : all.returns + sum_by (λ (h : Held). h.returns) rest ≡ sum_by (λ (h : Held). h.returns) total
 
 pub add_one : (all h new : Held) (rest rest' total : List Held) → rest ≡ rest' ++ h ∷ [] → new ≡ both all h → AddsUp all rest total → AddsUp new rest' total
 add_one all h new rest rest' total is new-is a = record {
@@ -28,6 +29,7 @@ add_one all h new rest rest' total is new-is a = record {
   fetches = rw new-is (omega (arith, a.fetches, ap (λ xs. sum_by (λ (h : Held). h.fetches) xs) is, one_sum (λ (h : Held). h.fetches) rest' h));
   failed = rw new-is (omega (arith, a.failed, ap (λ xs. sum_by (λ (h : Held). h.failed) xs) is, one_sum (λ (h : Held). h.failed) rest' h));
   overs = rw new-is (omega (arith, a.overs, ap (λ xs. sum_by (λ (h : Held). h.overs) xs) is, one_sum (λ (h : Held). h.overs) rest' h));
+  returns = rw new-is (omega (arith, a.returns, ap (λ xs. sum_by (λ (h : Held). h.returns) xs) is, one_sum (λ (h : Held). h.returns) rest' h));
 }
 
 pub begin_with : (h : Held) (rest total : List Held) → total ≡ rest ++ h ∷ [] → AddsUp h rest total
@@ -40,6 +42,7 @@ begin_with h rest total is = record {
   fetches = omega (arith, ap (λ xs. sum_by (λ (h : Held). h.fetches) xs) is, one_sum (λ (h : Held). h.fetches) rest h);
   failed = omega (arith, ap (λ xs. sum_by (λ (h : Held). h.failed) xs) is, one_sum (λ (h : Held). h.failed) rest h);
   overs = omega (arith, ap (λ xs. sum_by (λ (h : Held). h.overs) xs) is, one_sum (λ (h : Held). h.overs) rest h);
+  returns = omega (arith, ap (λ xs. sum_by (λ (h : Held). h.returns) xs) is, one_sum (λ (h : Held). h.returns) rest h);
 }
 
 pub all_push : {X : Type 0} (P : X → Type 0) (xs ys : List X) (x : X) → ys ≡ xs ++ x ∷ [] → All P xs → P x → All P ys

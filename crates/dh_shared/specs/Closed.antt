@@ -1,5 +1,5 @@
 -- What is known of a table once all of its seats are back.
-use Rattle.std.specs.Prelude.{◌≡◌, ◌<◌, not, count_by, IsSome}
+use Rattle.std.specs.Prelude.{◌≡◌, ◌≤◌, ◌<◌, not, count_by, IsSome}
 use Rattle.dh_imports.specs.Replay.{root_end}
 use Rattle.dh_table.specs.Calls.{failures}
 use Rattle.dh_table.specs.Shown.{Shown}
@@ -18,4 +18,6 @@ pub record Closes (table : Shown) (all : Held) : Type 0 where
   pub failed : failures (state_of table) ≡ all.failed
   -- the run was found over, so it is
   pub overs : 0 < all.overs → IsSome (root_end (state_of table))
+  -- each release gave a ticket back
+  pub returns : all.releases ≤ all.returns
   pub steps : count_by (λ e. not (is_mark e)) table.history ≡ made all

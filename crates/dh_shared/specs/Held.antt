@@ -1,10 +1,11 @@
 -- What a worker has counted, and how each call changes it.
 --
--- A worker counts what it does in seven ledgers: the claims that it made, the deliveries that were kept, its releases, the
--- deliveries that came late, the claims of a fetch, the kept deliveries of what failed, and the claims that found the run over.
+-- A worker counts what it does in eight ledgers: the claims that it made, the deliveries that were kept, its releases, the
+-- deliveries that came late, the claims of a fetch, the kept deliveries of what failed, the claims that found the run over, and
+-- its returns. A return is a ticket that it gave back: by a release, or without a step where the serial was in flight no more.
 use Rattle.std.specs.Prelude.{ℕ, ◌+◌, List, sum_by}
 
--- how many parts of each ledger it holds, and the seven amounts
+-- how many parts of each ledger it holds, and the eight amounts
 pub record Held : Type 0 where
   pub parts : ℕ
   pub claims : ℕ
@@ -14,9 +15,10 @@ pub record Held : Type 0 where
   pub fetches : ℕ
   pub failed : ℕ
   pub overs : ℕ
+  pub returns : ℕ
 
 abbrev pub none_held : ℕ → Held
-none_held parts = record { parts = parts; claims = 0; kept = 0; releases = 0; lates = 0; fetches = 0; failed = 0; overs = 0 }
+none_held parts = record { parts = parts; claims = 0; kept = 0; releases = 0; lates = 0; fetches = 0; failed = 0; overs = 0; returns = 0 }
 
 -- both together
 abbrev pub both : Held → Held → Held
@@ -29,6 +31,7 @@ both a b = record {
   fetches = a.fetches + b.fetches;
   failed = a.failed + b.failed;
   overs = a.overs + b.overs;
+  returns = a.returns + b.returns;
 }
 
 -- one more claim, which is one of so many fetches
@@ -41,6 +44,10 @@ with_kept h failed = record h { kept = h.kept + 1; failed = h.failed + failed }
 
 abbrev pub with_release : Held → Held
 with_release h = record h { releases = h.releases + 1 }
+
+-- one more ticket that was given back
+abbrev pub with_return : Held → Held
+with_return h = record h { returns = h.returns + 1 }
 
 abbrev pub with_late : Held → Held
 with_late h = record h { lates = h.lates + 1 }
@@ -63,4 +70,5 @@ sum_held hs = record {
   fetches = sum_by (λ (h : Held). h.fetches) hs;
   failed = sum_by (λ (h : Held). h.failed) hs;
   overs = sum_by (λ (h : Held). h.overs) hs;
+  returns = sum_by (λ (h : Held). h.returns) hs;
 }

@@ -1,5 +1,5 @@
--- The seven ledgers of a run.
-use Rattle.std.specs.Prelude.{◌≡◌, ℕ}
+-- The eight ledgers of a run.
+use Rattle.std.specs.Prelude.{ℕ}
 
 -- how many parts each has, and their names
 pub record Ledgers : Type 0 where
@@ -11,3 +11,4 @@ pub record Ledgers : Type 0 where
   pub fetches : ℕ
   pub failed : ℕ
   pub overs : ℕ
+  pub returns : ℕ

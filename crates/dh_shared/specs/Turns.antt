@@ -16,7 +16,7 @@ use Rattle.dh_table.specs.Calls.{new_failures}
 use Rattle.dh_table.specs.Works.{IsFitWork}
 use Rattle.dh_shared.specs.declared.turns.Turn.{Turn}
 use Rattle.dh_shared.specs.declared.turns.Turn.TheVariants as turns
-use Rattle.dh_shared.specs.Held.{Held, with_claim, with_kept, with_release, with_late, with_over}
+use Rattle.dh_shared.specs.Held.{Held, with_claim, with_kept, with_release, with_return, with_late, with_over}
 
 -- how many fetches it is
 abbrev pub fetches_of : Work → ℕ
@@ -30,12 +30,12 @@ IsWorkOf ticket (works.Fetch l) = ticket.kind ≡ kinds.Fetch
 IsWorkOf ticket (works.Look d) = ticket.kind ≡ kinds.Look
 IsWorkOf ticket (works.Finish i) = ticket.kind ≡ kinds.Finish
 
--- one claim: it made one step, or none where it would wait; where memory was wanting, a ticket that was drawn was released
+-- one claim: it made one step, or none where it would wait; where memory was wanting, a ticket that was drawn was given back
 abbrev pub Turns : Held → Held → Turn → Type 0
 Turns old new (turns.Work ticket work) = (new ≡ with_claim old (fetches_of work)) × IsWorkOf ticket work × IsFitWork work
 Turns old new turns.Idle = new ≡ old
 Turns old new turns.Over = new ≡ with_over old
-Turns old new turns.Memory = (new ≡ old) ⊎ ((fetch : Bool) × (new ≡ with_release (with_claim old (cond fetch 1 0))))
+Turns old new turns.Memory = (new ≡ old) ⊎ ((fetch : Bool) × (new ≡ with_release (with_return (with_claim old (cond fetch 1 0)))))
 
 -- what a worker may bring, in a world that tells this of texts and this of the cache
 abbrev pub Brings : (Loc → Option Got) → (Digest → Option (Option (List ℕ))) → News → Type 0
@@ -49,6 +49,6 @@ Hands old new news taken.Kept = new ≡ with_kept old (new_failures news taken.K
 Hands old new news (taken.Late ticket n) = new ≡ with_late old
 Hands old new news (taken.Memory ticket back) = (new ≡ old) × (back ≡ news)
 
--- a release makes one step or none
+-- a ticket is given back, by one step or, where its serial was not in flight, by none
 abbrev pub Frees : Held → Held → Type 0
-Frees old new = (new ≡ old) ⊎ (new ≡ with_release old)
+Frees old new = (new ≡ with_return old) ⊎ (new ≡ with_release (with_return old))

@@ -1,14 +1,14 @@
-//! The seven ledgers in which workers count what they do, and the shares of them that each worker holds.
+//! The eight ledgers in which workers count what they do, and the shares of them that each worker holds.
 
 ghost use Rattle.std.specs.Prelude.{◌≡◌, ℕ, ◌+◌, ◌≤◌, ◌<◌, cond};
-ghost use Rattle.dh_shared.specs.Held.{none_held, both, with_claim, with_kept, with_release, with_late, with_over};
+ghost use Rattle.dh_shared.specs.Held.{none_held, both, with_claim, with_kept, with_release, with_return, with_late, with_over};
 
-use crate::ledgers::{Blanks, Claims, Failed, Fetches, Kept, Lates, Overs, Releases};
+use crate::ledgers::{Blanks, Claims, Failed, Fetches, Kept, Lates, Overs, Releases, Returns};
 use crate::runs::Counted;
 use std::marker::Model;
 use std::sync::ledger::{Book, Share};
 
-/// The seven books: what all workers together have counted.
+/// The eight books: what all workers together have counted.
 #[derive(Drop)]
 pub struct Books<N: Counted> {
     claims: Book<Claims<N>>,
@@ -18,6 +18,7 @@ pub struct Books<N: Counted> {
     fetches: Book<Fetches<N>>,
     failed: Book<Failed<N>>,
     overs: Book<Overs<N>>,
+    returns: Book<Returns<N>>,
 }
 
 impl<N: Counted> Model for Books<N> {
@@ -25,10 +26,10 @@ impl<N: Counted> Model for Books<N> {
 
     ghost Value = { Held };
 
-    ghost view = { λ b. record { parts = 0; claims = b.claims.total; kept = b.kept.total; releases = b.releases.total; lates = b.lates.total; fetches = b.fetches.total; failed = b.failed.total; overs = b.overs.total } };
+    ghost view = { λ b. record { parts = 0; claims = b.claims.total; kept = b.kept.total; releases = b.releases.total; lates = b.lates.total; fetches = b.fetches.total; failed = b.failed.total; overs = b.overs.total; returns = b.returns.total } };
 }
 
-/// The same number of parts of each of the seven, with what was counted on them.
+/// The same number of parts of each of the eight, with what was counted on them.
 #[derive(Drop)]
 pub struct Shares<N: Counted> {
     claims: Share<Claims<N>>,
@@ -38,6 +39,7 @@ pub struct Shares<N: Counted> {
     fetches: Share<Fetches<N>>,
     failed: Share<Failed<N>>,
     overs: Share<Overs<N>>,
+    returns: Share<Returns<N>>,
 }
 
 impl<N: Counted> Model for Shares<N> {
@@ -46,9 +48,9 @@ impl<N: Counted> Model for Shares<N> {
 
     ghost Value = { Held };
 
-    ghost view = { λ s. record { parts = s.claims.parts; claims = s.claims.amount; kept = s.kept.amount; releases = s.releases.amount; lates = s.lates.amount; fetches = s.fetches.amount; failed = s.failed.amount; overs = s.overs.amount } };
+    ghost view = { λ s. record { parts = s.claims.parts; claims = s.claims.amount; kept = s.kept.amount; releases = s.releases.amount; lates = s.lates.amount; fetches = s.fetches.amount; failed = s.failed.amount; overs = s.overs.amount; returns = s.returns.amount } };
 
-    ghost invariant = { λ s. (s.kept.parts ≡ s.claims.parts) × (s.releases.parts ≡ s.claims.parts) × (s.lates.parts ≡ s.claims.parts) × (s.fetches.parts ≡ s.claims.parts) × (s.failed.parts ≡ s.claims.parts) × (s.overs.parts ≡ s.claims.parts) };
+    ghost invariant = { λ s. (s.kept.parts ≡ s.claims.parts) × (s.releases.parts ≡ s.claims.parts) × (s.lates.parts ≡ s.claims.parts) × (s.fetches.parts ≡ s.claims.parts) × (s.failed.parts ≡ s.claims.parts) × (s.overs.parts ≡ s.claims.parts) × (s.returns.parts ≡ s.claims.parts) };
 }
 
 /// The seat of one worker: one part of each ledger.
@@ -75,6 +77,7 @@ impl<N: Counted> Books<N> {
             fetches,
             failed,
             overs,
+            returns,
         } = blanks;
         let (claims, my_claims) = claims.open();
         let (kept, my_kept) = kept.open();
@@ -83,6 +86,7 @@ impl<N: Counted> Books<N> {
         let (fetches, my_fetches) = fetches.open();
         let (failed, my_failed) = failed.open();
         let (overs, my_overs) = overs.open();
+        let (returns, my_returns) = returns.open();
         (
             Books {
                 claims,
@@ -92,6 +96,7 @@ impl<N: Counted> Books<N> {
                 fetches,
                 failed,
                 overs,
+                returns,
             },
             Shares {
                 claims: my_claims,
@@ -101,6 +106,7 @@ impl<N: Counted> Books<N> {
                 fetches: my_fetches,
                 failed: my_failed,
                 overs: my_overs,
+                returns: my_returns,
             },
         )
     }
@@ -132,6 +138,15 @@ impl<N: Counted> Books<N> {
         ensures shares { mine.new ≡ with_release mine.old }
     {
         self.releases.add(&mut mine.releases, 1);
+    }
+
+    /// Counts a ticket that was given back.
+    pub fn add_return(&mut self, mine: &mut Shares<N>)
+        requires { 0 < mine.old.parts }
+        ensures books { self.new ≡ with_return self.old }
+        ensures shares { mine.new ≡ with_return mine.old }
+    {
+        self.returns.add(&mut mine.returns, 1);
     }
 
     /// Counts a delivery that came late.
@@ -166,6 +181,7 @@ impl<N: Counted> Books<N> {
         self.fetches.audit(&mut all.fetches);
         self.failed.audit(&mut all.failed);
         self.overs.audit(&mut all.overs);
+        self.returns.audit(&mut all.returns);
     }
 }
 
@@ -184,6 +200,7 @@ impl<N: Counted> Shares<N> {
             fetches: self.fetches.split_off(1, 0),
             failed: self.failed.split_off(1, 0),
             overs: self.overs.split_off(1, 0),
+            returns: self.returns.split_off(1, 0),
         }
     }
 
@@ -199,6 +216,7 @@ impl<N: Counted> Shares<N> {
             fetches,
             failed,
             overs,
+            returns,
         } = other;
         self.claims.merge(claims);
         self.kept.merge(kept);
@@ -207,6 +225,7 @@ impl<N: Counted> Shares<N> {
         self.fetches.merge(fetches);
         self.failed.merge(failed);
         self.overs.merge(overs);
+        self.returns.merge(returns);
     }
 }
 

@@ -1,4 +1,4 @@
-//! The seven ledgers of a run: what they count, each by a type that names it.
+//! The eight ledgers of a run: what they count, each by a type that names it.
 
 ghost use Rattle.std.specs.Prelude.{◌≡◌};
 
@@ -83,7 +83,18 @@ impl<N: Counted> Ledger for Overs<N> {
     ghost parts = { N.ledgers.parts };
 }
 
-/// Seven new ledgers of as many parts. They have no parameter, so that one function can make them and another can name their run.
+/// The ledger of tickets that were given back.
+pub struct Returns<N: Counted> {
+    of: PhantomData<N>,
+}
+
+impl<N: Counted> Ledger for Returns<N> {
+    ghost name = { N.ledgers.returns };
+
+    ghost parts = { N.ledgers.parts };
+}
+
+/// Eight new ledgers of as many parts. They have no parameter, so that one function can make them and another can name their run.
 #[derive(Drop)]
 pub struct Blanks {
     pub(crate) claims: Blank,
@@ -93,6 +104,7 @@ pub struct Blanks {
     pub(crate) fetches: Blank,
     pub(crate) failed: Blank,
     pub(crate) overs: Blank,
+    pub(crate) returns: Blank,
 }
 
 impl Model for Blanks {
@@ -101,13 +113,13 @@ impl Model for Blanks {
 
     ghost Value = { Ledgers };
 
-    ghost view = { λ b. record { parts = b.claims.parts; claims = b.claims.name; kept = b.kept.name; releases = b.releases.name; lates = b.lates.name; fetches = b.fetches.name; failed = b.failed.name; overs = b.overs.name } };
+    ghost view = { λ b. record { parts = b.claims.parts; claims = b.claims.name; kept = b.kept.name; releases = b.releases.name; lates = b.lates.name; fetches = b.fetches.name; failed = b.failed.name; overs = b.overs.name; returns = b.returns.name } };
 
-    ghost invariant = { λ b. (b.kept.parts ≡ b.claims.parts) × (b.releases.parts ≡ b.claims.parts) × (b.lates.parts ≡ b.claims.parts) × (b.fetches.parts ≡ b.claims.parts) × (b.failed.parts ≡ b.claims.parts) × (b.overs.parts ≡ b.claims.parts) };
+    ghost invariant = { λ b. (b.kept.parts ≡ b.claims.parts) × (b.releases.parts ≡ b.claims.parts) × (b.lates.parts ≡ b.claims.parts) × (b.fetches.parts ≡ b.claims.parts) × (b.failed.parts ≡ b.claims.parts) × (b.overs.parts ≡ b.claims.parts) × (b.returns.parts ≡ b.claims.parts) };
 }
 
 impl Blanks {
-    /// Seven ledgers of so many parts.
+    /// Eight ledgers of so many parts.
     pub fn new(workers: u64) -> Blanks
         ensures { result.parts ≡ workers }
     {
@@ -119,6 +131,7 @@ impl Blanks {
             fetches: Blank::new(workers),
             failed: Blank::new(workers),
             overs: Blank::new(workers),
+            returns: Blank::new(workers),
         }
     }
 }

@@ -29,6 +29,7 @@ pub struct Locked<W: World, Q: Rooted, N: Counted> {
     ghost claims_in: { count_by is_claim table.history ≡ books.claims },
     ghost kept_in: { count_by is_recorded table.history ≡ books.kept },
     ghost releases_in: { count_by is_release table.history ≡ books.releases },
+    ghost returns_in: { books.releases ≤ books.returns },
     ghost lates_in: { count_by is_late table.history ≡ books.lates },
     ghost fetches_in: { count_by is_fetch_claim table.history ≡ books.fetches },
     ghost failed_in: { failures (state_of table) ≡ books.failed },
@@ -73,6 +74,7 @@ impl<W: World, Q: Rooted, N: Counted> Locked<W, Q, N> {
                 match work_of(*alloc, table, &ticket) {
                     Ok(work) => Turn::Work(ticket, work),
                     Err(_) => {
+                        books.add_return(&mut seat.shares);
                         if put_back(table, ticket) {
                             books.add_release(&mut seat.shares);
                         }
@@ -88,7 +90,7 @@ impl<W: World, Q: Rooted, N: Counted> Locked<W, Q, N> {
         self.table.idle()
     }
 
-    /// One release, or none where the serial is not in flight.
+    /// Gives a ticket back: one release, or none where the serial is not in flight.
     pub(crate) fn release(&mut self, seat: &mut Seat<N>, ticket: Ticket)
         ensures frees { Frees seat.old.shares seat.new.shares }
         ensures worker { seat.new.worker ≡ seat.old.worker }
@@ -99,6 +101,7 @@ impl<W: World, Q: Rooted, N: Counted> Locked<W, Q, N> {
             books,
             of: _,
         } = self;
+        books.add_return(&mut seat.shares);
         if put_back(table, ticket) {
             books.add_release(&mut seat.shares);
         }

@@ -18,7 +18,7 @@ impl Rooted for Brand {
     ghost root = { Node ops.List [] };
 }
 
-/// The seven ledgers of a run. A type over them cannot say of which root it is, so these are two parameters.
+/// The eight ledgers of a run. A type over them cannot say of which root it is, so these are two parameters.
 pub trait Counted {
     ghost use Rattle.dh_shared.specs.Ledgers.{Ledgers};
 
@@ -26,5 +26,5 @@ pub trait Counted {
 }
 
 impl Counted for Brand {
-    ghost ledgers = { record { parts = 0; claims = 0; kept = 0; releases = 0; lates = 0; fetches = 0; failed = 0; overs = 0 } };
+    ghost ledgers = { record { parts = 0; claims = 0; kept = 0; releases = 0; lates = 0; fetches = 0; failed = 0; overs = 0; returns = 0 } };
 }

@@ -18,7 +18,7 @@ use std::alloc::{AllocError, Global};
 use std::marker::PhantomData;
 use std::sync::{Condvar, Mutex, Wait};
 
-/// The table of one run under one lock, with its seven books. It is of the root of `Q` from its first step to its last.
+/// The table of one run under one lock, with its eight books. It is of the root of `Q` from its first step to its last.
 #[derive(Drop)]
 pub struct SharedTable<W: World, Q: Rooted, N: Counted> {
     locked: Mutex<Locked<W, Q, N>>,
@@ -83,7 +83,7 @@ impl<W: World, Q: Rooted, N: Counted> SharedTable<W, Q, N> {
         taken
     }
 
-    /// One release under the lock, which wakes who waits; none where the serial is not in flight.
+    /// Gives a ticket back under the lock, which wakes who waits: one release, or none where the serial is not in flight.
     pub fn release<T: Wait>(&self, rt: &T, seat: &mut Seat<N>, ticket: Ticket)
         ensures frees { Frees seat.old.shares seat.new.shares }
         ensures worker { seat.new.worker ≡ seat.old.worker }

@@ -11,6 +11,6 @@ pub enum Turn {
     Idle,
     /// The root is decided.
     Over,
-    /// Memory is wanting; a ticket that was drawn is released.
+    /// Memory is wanting; a ticket that was drawn is given back.
     Memory,
 }

@@ -1,12 +1,12 @@
 -- Why a run ended by the status of a fault, and what it wrote.
-use Rattle.std.proofs.Common.{◌≡◌, ◌⊎◌, inl, inr, ℕ, List, [], Result, Ok, Err, Bool, true, false, true≢false, refl, sym, ap, ◌∙◌, subst}
+use Rattle.std.proofs.Common.{◌≡◌, ◌⊎◌, inl, inr, ℕ, List, [], Option, Some, None, Result, Ok, Err, Bool, true, false, true≢false, refl, sym, ap, ◌∙◌, subst}
 use Rattle.std.specs.Prelude.{IsTrue}
 use Rattle.dh_command.specs.declared.commands.Command.{Command}
 use Rattle.dh_command.specs.declared.statuses.Status.{Status}
 use Rattle.dh_command.specs.declared.statuses.Status.TheVariants as status
 use Rattle.dh_command.specs.declared.verbs.Verb.{Verb}
 use Rattle.dh_command.specs.declared.verbs.Verb.TheVariants as verb
-use Rattle.dh_command.specs.Answer.{CommandAnswer, usage, does, Does, encodes, decodes, decodes_none, spells, spells_none, takes_steps, helps, tells_version, ResolvedAnswer, valued, faulty, circular, overfull, FaultAnswer, at_fault, ValuedAnswer, itself, frozen, typed, TypedAnswer, prints, refuses, limited, no_value, cycle_at, too_many_keys}
+use Rattle.dh_command.specs.Answer.{CommandAnswer, usage, does, Does, encodes, decodes, decodes_none, spells, spells_none, takes_steps, explains, helps, tells_version, ResolvedAnswer, valued, faulty, circular, overfull, FaultAnswer, at_fault, ValuedAnswer, itself, frozen, typed, TypedAnswer, prints, refuses, limited, no_value, cycle_at, too_many_keys}
 use Rattle.dh_command.specs.Lines.{read_line, memory_line, usage_line}
 use Rattle.dh_command.specs.Responses.{Response, answer, fault, line}
 use Rattle.dh_command.specs.Statuses.{why_status}
@@ -14,7 +14,17 @@ use Rattle.dh_command.specs.StepsReplies.{AreNamed, steps_response}
 use Rattle.dh_command.specs.Words.{Word, command_of, operand_words, resolves, types}
 use Rattle.dh_imports.specs.declared.outcomes.Blame.{Blame}
 use Rattle.dh_imports.specs.Readings.{Reading, root_reading}
-use Rattle.dh_imports.specs.Records.{Record}
+use Rattle.dh_imports.specs.declared.outcomes.Why.{Why}
+use Rattle.dh_imports.specs.declared.outcomes.Why.TheVariants as whys
+use Rattle.dh_imports.specs.Records.{Record, limit_at, IsLimitOf}
+use Rattle.dh_imports.specs.Replay.{RootEnd, bad, end_of}
+use Rattle.dh_imports.specs.Resolver.{ResolvesRoot}
+use Rattle.dh_imports.specs.RootEnds.{EndsBy, resolved, overflows}
+use Rattle.dh_imports.specs.Walk.{Walked, Ready, Fails, Turns, Needs}
+use Rattle.dh_import_laws.specs.WithoutMemory.{memory, LimitsNeedNone}
+use Rattle.dh_import_laws.proofs.NoMemory.{roots_need_none}
+use Rattle.dh_laws.proofs.KeyOrder.{none-some}
+use Rattle.dh_syntax.specs.declared.faults.TypeFault.TheVariants as type_faults
 use Rattle.dh_json.specs.FaultLines.{no_json_line}
 use Rattle.dh_steps.specs.StepLines.{outside_line, no_rule_line, grown_line}
 use Rattle.dh_steps.specs.StepsAnswer as replies
@@ -25,8 +35,12 @@ use Rattle.dh_syntax.specs.Expressions.Tree.{Term}
 use Rattle.dh_syntax.specs.Text.Spelling.{ParsesTo}
 use Rattle.dh_top.specs.Causes as causes
 use Rattle.dh_top.specs.Causes.{Cause, Decides, IsValued, IsCaused, TellsOneLine, has_cause, is_refusal}
-use Rattle.dh_top.specs.Outside.{Outside, Finds}
+use Rattle.dh_top.specs.Outside.{Outside, Finds, finds, leaves}
 use Rattle.dh_top.specs.Runs.{Input, Output, Gains, Makes, answers, cannot_read, lacks_memory, Delivers, whole, out_failed, err_failed, Runs, IsRead, FindsFor}
+
+abbrev is_memory : Status → Bool
+is_memory status.Memory = true
+is_memory _ = false
 
 -- what a fault writes, and why
 abbrev Blamed : Verb → List Word → List ℕ → Record → Response → Type 0
@@ -90,6 +104,7 @@ blamed v ops text r w (decodes_none h l q) n = of-fault v ops text r w (parse_fa
 blamed v ops text r w (spells e h p a) n = of-resolved v ops text e r w h p a n
 blamed v ops text r w (spells_none f h p q) n = of-fault v ops text r w (parse_fault_line f) status.Text q (causes.no_expression f (inr (inl h)) p)
 blamed v ops text r w (takes_steps places s h k a q) n = of-steps v ops text r w places s h k a q n
+blamed v ops text r w (explains told h k q) n = no-answer w _ q n
 blamed v ops text r w (helps h q) n = no-answer w _ q n
 blamed v ops text r w (tells_version h q) n = no-answer w _ q n
 
@@ -131,26 +146,86 @@ caused words input o out err s run n = by run.delivers
     by (out_failed g h e) = not-so has_cause s status.Write e refl n
     by (err_failed g h e) = not-so has_cause s status.Write e refl n
 
--- what a refusal writes
-abbrev OneLine : Response → Type 0
-OneLine w = (told : List ℕ) × (w.out ≡ []) × (w.err ≡ line told)
+-- ---- no cause is want of memory
 
-line-of : (w : Response) (told : List ℕ) (s : Status) → w ≡ fault told s → OneLine w
-line-of w told s u = (told, ap (λ (x : Response). x.out) u, ap (λ (x : Response). x.err) u)
+unlike : {P : Type 0} (s : Status) → is_memory s ≡ false → s ≡ status.Memory → P
+unlike s n h = absurd (true≢false (sym (ap is_memory h) ∙ n))
+
+why-memory : (w : Why) → why_status w ≡ status.Memory → w ≡ memory
+why-memory (whys.Typing type_faults.Memory) h = refl
+why-memory (whys.Typing (type_faults.Ill f)) h = unlike status.Ill refl h
+why-memory (whys.Typing type_faults.Wide) h = unlike status.Limit refl h
+why-memory (whys.Typing type_faults.Spent) h = unlike status.Limit refl h
+why-memory (whys.Typing type_faults.Deep) h = unlike status.Limit refl h
+why-memory (whys.Norm f) h = unlike status.Limit refl h
+why-memory (whys.Parse f) h = unlike status.Text refl h
+why-memory whys.Absent h = unlike status.Import refl h
+why-memory whys.Missing h = unlike status.Import refl h
+why-memory (whys.Broken n) h = unlike status.Import refl h
+why-memory whys.Https h = unlike status.Import refl h
+why-memory whys.Failed h = unlike status.Desk refl h
+why-memory (whys.Differs wanted got) h = unlike status.Import refl h
+why-memory (whys.Insane l) h = unlike status.Import refl h
+why-memory (whys.Cors l) h = unlike status.Import refl h
+why-memory whys.Cycle h = unlike status.Import refl h
+why-memory whys.TooMany h = unlike status.Limit refl h
+
+module _ (r : Record) (root : Term) (b : Blame) (limits : LimitsNeedNone r) where
+  failed-none : (w : Walked Term) → ResolvesRoot r root w → end_of w ≡ Some (bad b) → ¬ (b.why ≡ memory)
+  failed-none (Ready x) h at e = absurd cc
+  failed-none (Fails c) h at e = let same : c ≡ b = cc in roots_need_none r root c limits h (ap (λ (d : Blame). d.why) same ∙ e)
+  failed-none (Turns j) h at e = absurd cc
+  failed-none (Needs y) h at e = absurd cc
+
+  ended-none : (end : RootEnd) → end ≡ bad b → EndsBy r root end → ¬ (b.why ≡ memory)
+  ended-none _ p (resolved w few h at) = failed-none w h (at ∙ ap Some p)
+  ended-none _ p (overflows h) = absurd cc
+
+decided-none : (text : List ℕ) (r : Record) (b : Blame) → LimitsNeedNone r → Decides text r b → ¬ (b.why ≡ memory)
+decided-none text r b limits (causes.an_import root p ends) e = ended-none r root b limits (bad b) refl ends e
+decided-none text r b limits (causes.a_loop root j p ends u) e = unlike status.Import refl (ap why_status (sym (ap (λ (c : Blame). c.why) u) ∙ e))
+decided-none text r b limits (causes.all_keys root p ends u) e = unlike status.Limit refl (ap why_status (sym (ap (λ (c : Blame). c.why) u) ∙ e))
+
+cause-none : (v : Verb) (ops : List Word) (text : List ℕ) (r : Record) (s : Status) → LimitsNeedNone r → Cause v ops text r s → ¬ (s ≡ status.Memory)
+cause-none v ops text r _ limits (causes.no_expression f h p) e = absurd cc
+cause-none v ops text r _ limits (causes.no_binary_form f h p) e = absurd cc
+cause-none v ops text r _ limits (causes.too_large h l) e = absurd cc
+cause-none v ops text r _ limits (causes.at_fault b h d) e = decided-none text r b limits d (why-memory b.why e)
+cause-none v ops text r _ limits (causes.no_type t f h val ill) e = absurd cc
+cause-none v ops text r _ limits (causes.at_limit t l h val m k) e = absurd cc
+cause-none v ops text r _ limits (causes.no_value t ty f place same val is nf deep j) e = absurd cc
+cause-none v ops text r _ limits (causes.no_fragment t place h p o) e = absurd cc
+cause-none v ops text r _ limits (causes.no_rule t places n h k p g) e = absurd cc
+cause-none v ops text r _ limits (causes.grows t places n h k p g) e = absurd cc
+
+-- what a run finds for a limit is none either
+found-none : (v : Verb) (text : List ℕ) (o : Outside) (r : Record) → Finds v text o r → LimitsNeedNone r
+found-none v text o r (finds root end pairs steps h p came asks found e k files own) l w q u =
+    let limited = found.limits l w q in absurd (subst (IsLimitOf limited.code) u limited.licensed)
+found-none v text o r (leaves h alone) l w q u = none-some refl (sym (ap (λ x. limit_at x l) h) ∙ q)
+
+-- ---- what a refusal writes
+
+abbrev OneLine : Response → Type 0
+OneLine w = (told : List ℕ) × (w.out ≡ []) × (w.err ≡ line told) × (w.status ≡ status.Memory → told ≡ memory_line)
+
+line-of : (w : Response) (told : List ℕ) (s : Status) → w ≡ fault told s → (s ≡ status.Memory → told ≡ memory_line) → OneLine w
+line-of w told s u h = (told, ap (λ (x : Response). x.out) u, ap (λ (x : Response). x.err) u, λ e. h (sym (ap (λ (x : Response). x.status) u) ∙ e))
 
 made-line : (words : List Word) (input : Input) (o : Outside) (r : Record) (w : Response) → Makes words input o r w → IsTrue (is_refusal w.status) → OneLine w
-made-line words input o r w (answers text read f (usage k h u)) n = line-of w (usage_line k) status.Usage u
+made-line words input o r w (answers text read f (usage k h u)) n = line-of w (usage_line k) status.Usage u (λ e. unlike status.Usage refl e)
 made-line words input o r w (answers text read f (does c h d)) n =
-    let (told, p, q, z) = blamed c.verb (operand_words words) text r w d n in (told, p, q)
-made-line words input o r w (cannot_read c h rose alone u) n = line-of w read_line status.Read u
-made-line words input o r w (lacks_memory l u) n = line-of w memory_line status.Memory u
+    let (told, p, q, z) = blamed c.verb (operand_words words) text r w d n in
+    let limits = found-none c.verb text o r (subst (λ k. FindsFor k text o r) h f) in (told, p, q, λ e. absurd (cause-none c.verb (operand_words words) text r w.status limits z e))
+made-line words input o r w (cannot_read c h rose alone u) n = line-of w read_line status.Read u (λ e. unlike status.Read refl e)
+made-line words input o r w (lacks_memory l u) n = line-of w memory_line status.Memory u (λ e. refl)
 
-pub told-line : (words : List Word) (input : Input) (o : Outside) (out err : Output) (s : Status) → Runs words input o out err s → IsTrue (is_refusal s) → TellsOneLine out err
+pub told-line : (words : List Word) (input : Input) (o : Outside) (out err : Output) (s : Status) → Runs words input o out err s → IsTrue (is_refusal s) → TellsOneLine s out err
 told-line words input o out err s run n = by run.delivers
   where
-    by : Delivers run.written out err s → TellsOneLine out err
+    by : Delivers run.written out err s → TellsOneLine s out err
     by (whole g h e) =
-        let (told, p, q) = made-line words input o run.found run.written run.makes (subst (λ t. IsTrue (is_refusal t)) e n) in
-        (subst (Gains out) p g, (told, subst (Gains err) q h))
+        let (told, p, q, m) = made-line words input o run.found run.written run.makes (subst (λ t. IsTrue (is_refusal t)) e n) in
+        (subst (Gains out) p g, (told, λ k. m (sym e ∙ k), subst (Gains err) q h))
     by (out_failed g h e) = not-so is_refusal s status.Write e refl n
     by (err_failed g h e) = not-so is_refusal s status.Write e refl n

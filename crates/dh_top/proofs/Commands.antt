@@ -32,10 +32,10 @@ unnamed w [] n = refl
 unnamed w (p ∷ ps) n = passed w p (bytes_eq p.0 w) (find (λ p. bytes_eq p.0 w) ps) refl n.0 (unnamed w ps n.1)
 
 -- a word that names no command
-pub verb_of-none : (w : List ℕ) → (w ≡ codes "encode" → ⊥) → (w ≡ codes "decode" → ⊥) → (w ≡ codes "resolve" → ⊥) → (w ≡ codes "type" → ⊥) → (w ≡ codes "normalize" → ⊥) → (w ≡ codes "hash" → ⊥) → (w ≡ codes "to-json" → ⊥) → (w ≡ codes "freeze" → ⊥) → (w ≡ codes "steps" → ⊥) → (w ≡ codes "help" → ⊥) → (w ≡ codes "--help" → ⊥) → (w ≡ codes "-h" → ⊥) → (w ≡ codes "--version" → ⊥)
+pub verb_of-none : (w : List ℕ) → (w ≡ codes "encode" → ⊥) → (w ≡ codes "decode" → ⊥) → (w ≡ codes "resolve" → ⊥) → (w ≡ codes "type" → ⊥) → (w ≡ codes "normalize" → ⊥) → (w ≡ codes "hash" → ⊥) → (w ≡ codes "to-json" → ⊥) → (w ≡ codes "freeze" → ⊥) → (w ≡ codes "steps" → ⊥) → (w ≡ codes "explain" → ⊥) → (w ≡ codes "help" → ⊥) → (w ≡ codes "--help" → ⊥) → (w ≡ codes "-h" → ⊥) → (w ≡ codes "--version" → ⊥)
     → None ≡ verb_of w
-verb_of-none w k1 k2 k3 k4 k5 k6 k7 k8 k9 k10 k11 k12 k13 =
-    sym (unnamed w named (k1, (k2, (k3, (k4, (k5, (k6, (k7, (k8, (k9, (k10, (k11, (k12, (k13, tt))))))))))))))
+verb_of-none w k1 k2 k3 k4 k5 k6 k7 k8 k9 k10 k11 k12 k13 k14 =
+    sym (unnamed w named (k1, (k2, (k3, (k4, (k5, (k6, (k7, (k8, (k9, (k10, (k11, (k12, (k13, (k14, tt)))))))))))))))
 
 -- ---- numbers of workers
 

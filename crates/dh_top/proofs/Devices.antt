@@ -14,7 +14,7 @@ use Rattle.dh_command.specs.declared.statuses.Status.{Status}
 use Rattle.dh_command.specs.declared.statuses.Status.TheVariants as status
 use Rattle.dh_command.specs.declared.verbs.Verb.{Verb}
 use Rattle.dh_command.specs.declared.verbs.Verb.TheVariants as verb
-use Rattle.dh_command.specs.Answer.{Does, ResolvedAnswer, ValuedAnswer, TypedAnswer, FaultAnswer, encodes, decodes, decodes_none, spells, spells_none, takes_steps, helps, tells_version, valued, faulty, circular, overfull, at_fault, itself, frozen, typed, prints, refuses, limited, no_value, encoded, decoded}
+use Rattle.dh_command.specs.Answer.{Does, ResolvedAnswer, ValuedAnswer, TypedAnswer, FaultAnswer, encodes, decodes, decodes_none, spells, spells_none, takes_steps, explains, helps, tells_version, valued, faulty, circular, overfull, at_fault, itself, frozen, typed, prints, refuses, limited, no_value, encoded, decoded}
 use Rattle.dh_command.specs.Responses.{Response}
 use Rattle.dh_command.specs.Statuses.{why_status}
 use Rattle.dh_command.specs.Statuses.{code_of}
@@ -88,6 +88,7 @@ alone_status v ops text r w n (decodes_none h l q) = not_desk w status.Text (ap 
 alone_status v ops text r w n (spells e h p a) = resolves_none v n h
 alone_status v ops text r w n (spells_none f h p q) = resolves_none v n h
 alone_status v ops text r w n (takes_steps places s h k a u) = steps_status s w u
+alone_status v ops text r w n (explains told h k q) = not_desk w status.Ok (ap (λ w. w.status) q) (λ k. omega (arith, k))
 alone_status v ops text r w n (helps h q) = not_desk w status.Ok (ap (λ w. w.status) q) (λ k. omega (arith, k))
 alone_status v ops text r w n (tells_version h q) = not_desk w status.Ok (ap (λ w. w.status) q) (λ k. omega (arith, k))
 
@@ -154,7 +155,7 @@ rose before after n some (inr h) = inr (omega (arith, some, h))
 
 pub desk_failed : (v : Verb) (text : List ℕ) (o : Outside) (r : Record) → Finds v text o r → 0 < failures r → DeskFailed o
 desk_failed v text o r (finds root e pairs steps t p s a f by k files own) some = rose o.faults_before o.faults_after (failures r) some f.faults
-desk_failed v text o r (leaves none filed asked quiet) some = absurd (let z : failures r ≡ 0 = ap failures none in omega (arith, z, some))
+desk_failed v text o r (leaves none alone) some = absurd (let z : failures r ≡ 0 = ap failures none in omega (arith, z, some))
 
 pub told_device : (w : Response) (o : Outside) (out err : Output) (s : Status) → (w.status ≡ status.Desk → DeskFailed o) → Delivers w out err s → s ≡ status.Desk → DeskFailed o
 told_device w o out err s d (whole g h e) is = d (sym e ∙ is)

@@ -13,7 +13,7 @@ use Rattle.dh_command.specs.declared.statuses.Status.TheVariants as status
 use Rattle.dh_command.specs.declared.verbs.Verb.{Verb}
 use Rattle.dh_command.specs.declared.verbs.Verb.TheVariants as verb
 use Rattle.dh_syntax.specs.Bytes.BinaryFaults.{DecodesTo}
-use Rattle.dh_command.specs.Answer.{Does, encodes, decodes, decodes_none, spells, spells_none, takes_steps, helps, tells_version, usage, does, encoded, decoded}
+use Rattle.dh_command.specs.Answer.{Does, encodes, decodes, decodes_none, spells, spells_none, takes_steps, explains, helps, tells_version, usage, does, encoded, decoded}
 use Rattle.dh_command.specs.Responses.{Response, answer, misspelt, misused, unread}
 use Rattle.dh_command.specs.Telling.{help_text, version_text}
 use Rattle.dh_steps.specs.StepsAnswer as steps
@@ -25,9 +25,9 @@ use Rattle.dh_syntax.specs.Limits.{most_bytes}
 use Rattle.dh_syntax.specs.Text.Spelling.{ParsesTo}
 use Rattle.dh_top.proofs.Devices.{alone_status, desk_failed, other_statuses}
 use Rattle.dh_top.specs.declared.replies.Reply.{Reply}
-use Rattle.dh_top.specs.Outside.{Outside, Finds, finds, leaves, FilesPart, files_none, files_some, nothing_found}
-use Rattle.dh_top.specs.Replies.{written, Answers, IsMade, Performs, Lacks}
-use Rattle.dh_top.specs.Runs.{Input, Makes, answers, cannot_read, FindsFor, LacksMemory, lacks_early, lacks_late, IsRead, IsTaken, IsLeft, IsLeftAlone, IsQuiet, reading}
+use Rattle.dh_top.specs.Outside.{Outside, Finds, finds, leaves, FilesPart, files_none, files_some, IsLeftAlone, nothing_found}
+use Rattle.dh_top.specs.Replies.{IsExplained, written, Answers, IsMade, Performs, Lacks}
+use Rattle.dh_top.specs.Runs.{Input, Makes, answers, cannot_read, FindsFor, LacksMemory, lacks_early, lacks_late, IsRead, IsTaken, IsLeft, IsQuiet, reading}
 
 -- ---- the reply to what a text is parsed to, and to what bytes are decoded to
 
@@ -77,6 +77,7 @@ longer v ops n text r w m h (decodes_none e l q) = decodes_none e (omega (arith,
 longer v ops n text r w m h (spells e o p q) = absurd (let s = p.is_text.0 in let l = read_length n text m h in omega (arith, s, l))
 longer v ops n text r w m h (spells_none f o p q) = spells_none f o (longer_parse n text (Err f) m h p) q
 longer v ops n text r w m h (takes_steps places s e k a u) = takes_steps places s e k (longer_steps places n text s m h a) u
+longer v ops n text r w m h (explains told e k q) = explains told e k q
 longer v ops n text r w m h (helps e q) = helps e q
 longer v ops n text r w m h (tells_version e q) = tells_version e q
 
@@ -86,11 +87,11 @@ longer_none n text e m h p = absurd (let s = p.is_text.0 in let l = read_length 
 
 longer_finds : (v : Verb) (n : ℕ) (text : List ℕ) (o : Outside) (r : Record) → n ≡ 1048577 → n ≤ length text → Finds v (take n text) o r → Finds v text o r
 longer_finds v n text o r m h (finds root e pairs steps t p s a f by k files own) = longer_none n text root m h p
-longer_finds v n text o r m h (leaves none filed asked quiet) = leaves none filed asked quiet
+longer_finds v n text o r m h (leaves none alone) = leaves none alone
 
 longer_part : (v : Verb) (n : ℕ) (text : List ℕ) (o : Outside) → n ≡ 1048577 → n ≤ length text → FilesPart v (take n text) o → FilesPart v text o
 longer_part v n text o m h (files_none same) = files_none same
-longer_part v n text o m h (files_some root e r pairs kept t p f by k files) = longer_none n text root m h p
+longer_part v n text o m h (files_some root e r pairs kept steps t p s a f by k files) = longer_none n text root m h p
 
 by_test : (m n : ℕ) (b : Bool) → nat_lt n m ≡ b → (m ≤ n) ⊎ (n ≤ m)
 by_test m n true e = inr (let h = ltb-true n m e in omega arith)
@@ -130,6 +131,7 @@ resolving_reads verb.Hash t = refl
 resolving_reads verb.ToJson t = refl
 resolving_reads verb.Freeze t = refl
 resolving_reads verb.Steps t = refl
+resolving_reads verb.Explain t = absurd (true≢false (sym t))
 resolving_reads verb.Help t = absurd (true≢false (sym t))
 resolving_reads verb.Version t = absurd (true≢false (sym t))
 
@@ -206,7 +208,7 @@ resolves_none v idle t = true≢false (sym (resolving_reads v t) ∙ idle)
 
 part_apart : (v : Verb) (text : List ℕ) (o : Outside) → reads v ≡ false → FilesPart v text o → o.filed_after ≡ o.filed_before
 part_apart v text o idle (files_none same) = same
-part_apart v text o idle (files_some root e r pairs kept t p f by k files) = absurd (resolves_none v idle t)
+part_apart v text o idle (files_some root e r pairs kept steps t p s a f by k files) = absurd (resolves_none v idle t)
 
 pub lacks_apart : (c : Command) (input : Input) (text : List ℕ) (o : Outside) (r : Result Reply AllocError) → reads c.verb ≡ false → OnErr r (FilesPart c.verb text o) → OnErr r (Lacks c input o)
 lacks_apart c input text o (Ok x) idle p = tt
@@ -253,7 +255,7 @@ lacks_misused words input o (Err e) alone = lacks_early alone.0
 pub answers_alone : (v : Verb) (ops : List Word) (text : List ℕ) (o : Outside) (r : Result Reply AllocError) → does_resolve v ≡ false → IsLeftAlone o → IfOk r (λ x. Does v ops text nothing_found (written x))
     → IfOk r (λ x. Answers v ops text o (written x))
 answers_alone v ops text o (Ok x) none alone h =
-    record { found = nothing_found; finds = leaves refl alone.0 alone.2 (λ none. alone.1); does = h; devices = alone_status v ops text nothing_found (written x) none h }
+    record { found = nothing_found; finds = leaves refl alone; does = h; devices = alone_status v ops text nothing_found (written x) none h }
 answers_alone v ops text o (Err e) none alone h = tt
 
 pub alone_for : (v u : Verb) (ops : List Word) (text : List ℕ) (o : Outside) (r : Result Reply AllocError) → v ≡ u → does_resolve u ≡ false → IsLeftAlone o → IfOk r (λ x. Does u ops text nothing_found (written x))
@@ -266,16 +268,15 @@ pub with_operands : (v : Verb) (ops : List Word) (text : List ℕ) (r : Result R
 with_operands v ops text (Ok x) h = h ops
 with_operands v ops text (Err e) h = tt
 
-pub answers_with : (v : Verb) (ops : List Word) (text : List ℕ) (o : Outside) (r : Result Reply AllocError) → IfOk r (λ x. (ops : List Word) → Answers v ops text o (written x))
-    → IfOk r (λ x. Answers v ops text o (written x))
-answers_with v ops text o (Ok x) h = h ops
-answers_with v ops text o (Err e) h = tt
-
 pub part_none : {A : Type 0} (v : Verb) (text : List ℕ) (o : Outside) (r : Result A AllocError) → o.filed_after ≡ o.filed_before → OnErr r (FilesPart v text o)
 part_none v text o (Ok x) same = tt
 part_none v text o (Err e) same = files_none same
 
 -- ---- what the program tells of itself
+
+pub explains_any : (r : Result Reply AllocError) (ops : List Word) (text : List ℕ) → IfOk r (λ x. IsExplained ops (written x)) → IfOk r (λ x. Does verb.Explain ops text nothing_found (written x))
+explains_any (Ok x) ops text (told, k, w) = explains told refl k w
+explains_any (Err e) ops text w = tt
 
 pub helps_any : (r : Result Reply AllocError) (ops : List Word) (text : List ℕ) → IfOk r (λ x. written x ≡ answer help_text) → IfOk r (λ x. Does verb.Help ops text nothing_found (written x))
 helps_any (Ok x) ops text w = helps refl w

@@ -46,7 +46,7 @@ use Rattle.dh_table.specs.States.{IsReplayed, record_of, state_of}
 use Rattle.dh_session.specs.Ended.{AsksAll, FailsAll, NoneFell, none_left, more_left}
 use Rattle.dh_session.specs.Works.{AtLast}
 use Rattle.dh_top.specs.declared.replies.Reply.{Reply}
-use Rattle.dh_top.specs.Outside.{Outside, Pair, outside, first_of, AtFirst, at_first, FilesAll, FilesSome, Finds, finds, leaves, FilesPart, files_none, files_some, IsFound, IsHistory, KeepsBy, failures, nothing_found, total}
+use Rattle.dh_top.specs.Outside.{Outside, Pair, outside, first_of, AtFirst, at_first, FilesAll, FilesSome, Finds, finds, leaves, AsksFor, FilesPart, files_none, files_some, IsFound, IsHistory, IsLeftAlone, KeepsBy, failures, nothing_found, total}
 use Rattle.dh_top.specs.Replies.{written, Answers, IsClosed, TellsPlace}
 use Rattle.dh_top.proofs.Closing.{WalkedTo, walked}
 use Rattle.dh_top.proofs.Devices.{failed_found, other_statuses, resolved_device}
@@ -216,6 +216,9 @@ module _ (told : Loc → Option Got) (shelved : Digest → Option (Option (List 
     record_is = subst (λ r. (after_all r s.replayed.events).recorded ≡ record_of t) s.root_is (ap (λ z. z.recorded) s.replayed.state_is);
   }
 
+  asked_for : AsksFor (outside told shelved asked faults filed before after) s.replayed.events
+  asked_for = asks_by asked before mid after t s.replayed s.asks asks_same
+
   found_here : {P : D → D → Type 0} → Keeping faults P mid after → IsFound (outside told shelved asked faults filed before after) (record_of t)
   found_here k = found_by told shelved asked faults filed before mid after t s.texts s.looks s.replayed s.fails (rises faults k)
 
@@ -230,7 +233,7 @@ module _ (told : Loc → Option Got) (shelved : Digest → Option (Option (List 
       → ResolvedAnswer v text (state_of t).root (record_of t) w → Answers v ops text (outside told shelved asked faults filed before after) w
   answered_one ops w k a = record {
     found = record_of t;
-    finds = finds root s.closed.end pairs s.replayed.events takes spelled came (asks_by asked before mid after t s.replayed s.asks asks_same) (found_here k) by_root kept_by (all_at_first faults filed pairs before mid after s.fell s.filed_is k)
+    finds = finds root s.closed.end pairs s.replayed.events takes spelled came asked_for (found_here k) by_root kept_by (all_at_first faults filed pairs before mid after s.fell s.filed_is k)
         (all_faults faults filed (failures (record_of t)) pairs before mid after s.fell s.filed_is k s.fails);
     does = spells root takes spelled (subst (λ r. ResolvedAnswer v text r (record_of t) w) s.root_is a);
     devices = λ d. resolved_device v text (state_of t).root (record_of t) w a d (λ b by failed. failure_found b by failed);
@@ -240,7 +243,7 @@ module _ (told : Loc → Option Got) (shelved : Digest → Option (Option (List 
   part_one k = go (part_at_first faults filed pairs before mid after s.filed_is k)
     where
       go : (kept : List Pair) × FilesSome (first_of None (map filed before)) (first_of None (map filed after)) pairs kept → FilesPart v text (outside told shelved asked faults filed before after)
-      go (kept, files) = files_some root s.closed.end (record_of t) pairs kept takes spelled (found_here k) by_root kept_by files
+      go (kept, files) = files_some root s.closed.end (record_of t) pairs kept s.replayed.events takes spelled came asked_for (found_here k) by_root kept_by files
 
   pub answered : (r : Result Reply AllocError) → OnOk r (Keeping faults (λ d e. FilesAll (faults d) (faults e) (filed d) (filed e) pairs) mid after)
       → IfOk r (λ x. ResolvedAnswer v text (state_of t).root (record_of t) (written x)) → IfOk r (λ x. (ops : List Word) → Answers v ops text (outside told shelved asked faults filed before after) (written x))
@@ -254,27 +257,24 @@ module _ (told : Loc → Option Got) (shelved : Digest → Option (Option (List 
 
 -- ---- too many keys, and a text that spells nothing
 
-resolves_not : (v : Verb) {P : Type 0} → IsTrue (does_resolve v) → does_resolve v ≡ false → P
-resolves_not v t f = absurd (true≢false (sym t ∙ f))
-
 pub too_many_answered : (r : Result Reply AllocError) (v : Verb) (text : List ℕ) (root : Term) (o : Outside) (at : Option Key) → at ≡ None → IsTrue (does_resolve v) → ParsesTo text (Ok root)
-    → o.filed_after ≡ o.filed_before → o.asked_after ≡ o.asked_before → has_too_many (opening root) ≡ true → IfOk r (λ x. written x ≡ fault (in_item at (why_line whys.TooMany)) (why_status whys.TooMany))
+    → IsLeftAlone o → has_too_many (opening root) ≡ true → IfOk r (λ x. written x ≡ fault (in_item at (why_line whys.TooMany)) (why_status whys.TooMany))
     → IfOk r (λ x. (ops : List Word) → Answers v ops text o (written x))
-too_many_answered (Ok x) v text root o at none takes spelled same quiet many w = λ ops. record {
+too_many_answered (Ok x) v text root o at none takes spelled alone many w = λ ops. record {
   found = nothing_found;
-  finds = leaves refl same quiet (λ f. resolves_not v takes f);
+  finds = leaves refl alone;
   does = spells root takes spelled
       (overfull (overflows many) (at_fault (why_line whys.TooMany) (why_alone refl refl) (w ∙ ap (λ a. fault (in_item a (why_line whys.TooMany)) (why_status whys.TooMany)) none)));
   devices = other_statuses (written x) status.Limit (ap (λ w. w.status) w) (λ n. omega (arith, n));
 }
-too_many_answered (Err e) v text root o at none takes spelled same quiet many w = tt
+too_many_answered (Err e) v text root o at none takes spelled alone many w = tt
 
 pub misspelt_answered : (r : Result Reply AllocError) (v : Verb) (text : List ℕ) (f : ParseFault) (o : Outside) → IsTrue (does_resolve v) → ParsesTo text (Err f)
-    → o.filed_after ≡ o.filed_before → o.asked_after ≡ o.asked_before → IfOk r (λ x. written x ≡ misspelt f) → IfOk r (λ x. (ops : List Word) → Answers v ops text o (written x))
-misspelt_answered (Ok x) v text f o takes p same quiet w = λ ops. record {
+    → IsLeftAlone o → IfOk r (λ x. written x ≡ misspelt f) → IfOk r (λ x. (ops : List Word) → Answers v ops text o (written x))
+misspelt_answered (Ok x) v text f o takes p alone w = λ ops. record {
   found = nothing_found;
-  finds = leaves refl same quiet (λ none. resolves_not v takes none);
+  finds = leaves refl alone;
   does = spells_none f takes p w;
   devices = other_statuses (written x) status.Text (ap (λ w. w.status) w) (λ n. omega (arith, n));
 }
-misspelt_answered (Err e) v text f o takes p same quiet w = tt
+misspelt_answered (Err e) v text f o takes p alone w = tt

@@ -12,7 +12,7 @@ use Rattle.dh_command.specs.declared.statuses.Status.{Status}
 use Rattle.dh_command.specs.declared.statuses.Status.TheVariants as status
 use Rattle.dh_command.specs.declared.verbs.Verb.{Verb}
 use Rattle.dh_command.specs.declared.verbs.Verb.TheVariants as verb
-use Rattle.dh_command.specs.Answer.{Does, ResolvedAnswer, ValuedAnswer, encodes, decodes, decodes_none, spells, spells_none, takes_steps, helps, tells_version, valued, faulty, circular, overfull, itself, frozen, typed, usage, does, encoded, decoded, Succeeds, SucceedsBy, SucceedsOn}
+use Rattle.dh_command.specs.Answer.{Does, ResolvedAnswer, ValuedAnswer, encodes, decodes, decodes_none, spells, spells_none, takes_steps, explains, helps, tells_version, valued, faulty, circular, overfull, itself, frozen, typed, usage, does, encoded, decoded, Succeeds, SucceedsBy, SucceedsOn}
 use Rattle.dh_command.specs.Responses.{Response, without_memory}
 use Rattle.dh_command.specs.Words.{Word, command_of, operand_words, reads, resolves as does_resolve}
 use Rattle.dh_syntax.specs.Expressions.Tree.{Term}
@@ -64,8 +64,9 @@ number verb.Hash = 5
 number verb.ToJson = 6
 number verb.Freeze = 7
 number verb.Steps = 8
-number verb.Help = 9
-number verb.Version = 10
+number verb.Explain = 9
+number verb.Help = 10
+number verb.Version = 11
 
 pub apart : (u v : Verb) → u ≡ v → (number u ≡ number v → ⊥) → ⊥
 apart u v e n = n (ap number e)
@@ -143,6 +144,7 @@ done_by v ops text r w t (root, e, p, by, on) ok (spells d h q a) =
     resolved_done v text r d e w (subst (λ d. EndsBy r d (ready e)) (same_term text root d p q) by) (ok e on) a
 done_by v ops text r w t (root, e, p, by, on) ok (spells_none f h q u) = absurd (not_both text root f p q)
 done_by v ops text r w t s ok (takes_steps places x h n a u) = absurd (unresolved verb.Steps v refl t h)
+done_by v ops text r w t s ok (explains told h k q) = absurd (unresolved verb.Explain v refl t h)
 done_by v ops text r w t s ok (helps h q) = absurd (unresolved verb.Help v refl t h)
 done_by v ops text r w t s ok (tells_version h q) = absurd (unresolved verb.Version v refl t h)
 
@@ -187,6 +189,7 @@ told_ok v ops text r w n (decodes_none h l q) = absurd (read_not verb.Decode v r
 told_ok v ops text r w n (spells d h q a) = absurd (true≢false (sym (resolving_reads v h) ∙ n))
 told_ok v ops text r w n (spells_none g h q u) = absurd (true≢false (sym (resolving_reads v h) ∙ n))
 told_ok v ops text r w n (takes_steps places x h k a u) = absurd (read_not verb.Steps v refl n h)
+told_ok v ops text r w n (explains told h k q) = ap (λ w. w.status) q
 told_ok v ops text r w n (helps h q) = ap (λ w. w.status) q
 told_ok v ops text r w n (tells_version h q) = ap (λ w. w.status) q
 
@@ -197,6 +200,7 @@ done verb.Encode ops text r w s (decodes_none h l q) = absurd (apart _ _ h (λ n
 done verb.Encode ops text r w s (spells d h q a) = absurd (true≢false (sym h))
 done verb.Encode ops text r w s (spells_none g h q u) = absurd (true≢false (sym h))
 done verb.Encode ops text r w s (takes_steps places x h n a u) = absurd (apart _ _ h (λ n. omega (arith, n)))
+done verb.Encode ops text r w s (explains told h k q) = absurd (apart _ _ h (λ n. omega (arith, n)))
 done verb.Encode ops text r w s (helps h q) = absurd (apart _ _ h (λ n. omega (arith, n)))
 done verb.Encode ops text r w s (tells_version h q) = absurd (apart _ _ h (λ n. omega (arith, n)))
 done verb.Decode ops text r w s (encodes o h p q) = absurd (apart _ _ h (λ n. omega (arith, n)))
@@ -205,6 +209,7 @@ done verb.Decode ops text r w s (decodes_none h l q) = absurd (let k = s.1 in om
 done verb.Decode ops text r w s (spells d h q a) = absurd (true≢false (sym h))
 done verb.Decode ops text r w s (spells_none g h q u) = absurd (true≢false (sym h))
 done verb.Decode ops text r w s (takes_steps places x h n a u) = absurd (apart _ _ h (λ n. omega (arith, n)))
+done verb.Decode ops text r w s (explains told h k q) = absurd (apart _ _ h (λ n. omega (arith, n)))
 done verb.Decode ops text r w s (helps h q) = absurd (apart _ _ h (λ n. omega (arith, n)))
 done verb.Decode ops text r w s (tells_version h q) = absurd (apart _ _ h (λ n. omega (arith, n)))
 done verb.Resolve ops text r w s d = done_by verb.Resolve ops text r w refl s (resolve_ok w) d
@@ -219,8 +224,10 @@ done verb.Steps ops text r w s (decodes_none h l q) = absurd (apart _ _ h (λ n.
 done verb.Steps ops text r w s (spells d h q a) = absurd (true≢false (sym h))
 done verb.Steps ops text r w s (spells_none g h q u) = absurd (true≢false (sym h))
 done verb.Steps ops text r w s (takes_steps places x h n a u) = steps_end_ok ops places text x w s n a u
+done verb.Steps ops text r w s (explains told h k q) = absurd (apart _ _ h (λ n. omega (arith, n)))
 done verb.Steps ops text r w s (helps h q) = absurd (apart _ _ h (λ n. omega (arith, n)))
 done verb.Steps ops text r w s (tells_version h q) = absurd (apart _ _ h (λ n. omega (arith, n)))
+done verb.Explain ops text r w s d = told_ok verb.Explain ops text r w refl d
 done verb.Help ops text r w s d = told_ok verb.Help ops text r w refl d
 done verb.Version ops text r w s d = told_ok verb.Version ops text r w refl d
 

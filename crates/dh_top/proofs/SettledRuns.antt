@@ -5,7 +5,7 @@ use Rattle.std.proofs.lemmas.List.{append_assoc, append_cancel_right}
 use Rattle.dh_command.specs.declared.commands.Command.{Command}
 use Rattle.dh_command.specs.declared.verbs.Verb.{Verb}
 use Rattle.dh_command.specs.declared.verbs.Verb.TheVariants as verb
-use Rattle.dh_command.specs.Answer.{CommandAnswer, usage, does, Does, encodes, decodes, decodes_none, spells, spells_none, takes_steps, helps, tells_version}
+use Rattle.dh_command.specs.Answer.{CommandAnswer, usage, does, Does, encodes, decodes, decodes_none, spells, spells_none, takes_steps, explains, helps, tells_version}
 use Rattle.dh_command.specs.Responses.{Response, line}
 use Rattle.dh_command.specs.StepsReplies.{steps_response}
 use Rattle.dh_command.specs.Words.{Word, command_of, operand_words}
@@ -69,6 +69,7 @@ run-told verb.Steps ops input text r w v (decodes_none h l q) k = absurd (apart 
 run-told verb.Steps ops input text r w v (spells e h p a) k = absurd (true≢false (sym h))
 run-told verb.Steps ops input text r w v (spells_none f h p q) k = absurd (true≢false (sym h))
 run-told verb.Steps ops input text r w v (takes_steps places s h n a q) k = (places, step-told places input text s a (sym (ap (λ (x : Response). x.out) q) ∙ k))
+run-told verb.Steps ops input text r w v (explains told h n q) k = absurd (apart _ _ h (λ n. omega (arith, n)))
 run-told verb.Steps ops input text r w v (helps h q) k = absurd (apart _ _ h (λ n. omega (arith, n)))
 run-told verb.Steps ops input text r w v (tells_version h q) k = absurd (apart _ _ h (λ n. omega (arith, n)))
 run-told verb.Encode ops input text r w v d k = absurd (apart _ _ v (λ n. omega (arith, n)))
@@ -79,6 +80,7 @@ run-told verb.Normalize ops input text r w v d k = absurd (apart _ _ v (λ n. om
 run-told verb.Hash ops input text r w v d k = absurd (apart _ _ v (λ n. omega (arith, n)))
 run-told verb.Freeze ops input text r w v d k = absurd (apart _ _ v (λ n. omega (arith, n)))
 run-told verb.ToJson ops input text r w v d k = absurd (apart _ _ v (λ n. omega (arith, n)))
+run-told verb.Explain ops input text r w v d k = absurd (apart _ _ v (λ n. omega (arith, n)))
 run-told verb.Help ops input text r w v d k = absurd (apart _ _ v (λ n. omega (arith, n)))
 run-told verb.Version ops input text r w v d k = absurd (apart _ _ v (λ n. omega (arith, n)))
 

@@ -119,6 +119,7 @@ types_of verb.Hash t n m = refl
 types_of verb.ToJson t n m = refl
 types_of verb.Steps t n m = absurd (true≢false (sym t))
 types_of verb.Freeze t n m = absurd (m refl)
+types_of verb.Explain t n m = absurd (true≢false (sym t))
 types_of verb.Help t n m = absurd (true≢false (sym t))
 types_of verb.Version t n m = absurd (true≢false (sym t))
 

@@ -48,10 +48,6 @@ abbrev IsCommand : Result Command ℕ → Type 0
 IsCommand (Ok d) = Unit {0}
 IsCommand (Err n) = ⊥
 
-abbrev text_in : List ℕ → Option (List ℕ) → List ℕ
-text_in t (Some u) = u
-text_in t None = t
-
 reads-too : (v : Verb) → IsTrue (resolves v) → reads v ≡ true
 reads-too verb.Resolve h = refl
 reads-too verb.Type h = refl
@@ -62,6 +58,7 @@ reads-too verb.Freeze h = refl
 reads-too verb.Encode h = refl
 reads-too verb.Decode h = refl
 reads-too verb.Steps h = refl
+reads-too verb.Explain h = absurd cc
 reads-too verb.Help h = absurd cc
 reads-too verb.Version h = absurd cc
 
@@ -93,7 +90,7 @@ HasLimits r = (k : Key) (w : Why) → limit_at r k ≡ Some w → why_status w �
 
 found-limits : (v : Verb) (text : List ℕ) (o : Outside) (r : Record) → Finds v text o r → HasLimits r
 found-limits v text o r (finds root end pairs steps h p came asks found e k files f) l w q = let limited = found.limits l w q in limit_of-status limited.code w limited.licensed
-found-limits v text o r (leaves h f a g) l w q = none-some refl (sym (ap (λ x. limit_at x l) h) ∙ q)
+found-limits v text o r (leaves h alone) l w q = none-some refl (sym (ap (λ x. limit_at x l) h) ∙ q)
 
 warm-of : (r : Record) (root : Term) (plain : Record) → HasLimits r → IsHonestRun r root plain → IsWarm r root plain
 warm-of r root plain limits h = record {

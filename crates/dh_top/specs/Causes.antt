@@ -6,6 +6,7 @@ use Rattle.dh_command.specs.declared.statuses.Status.TheVariants as status
 use Rattle.dh_command.specs.declared.verbs.Verb.{Verb}
 use Rattle.dh_command.specs.declared.verbs.Verb.TheVariants as verb
 use Rattle.dh_command.specs.Answer.{IsLimit, IsTyped, cycle_at, too_many_keys}
+use Rattle.dh_command.specs.Lines.{memory_line}
 use Rattle.dh_command.specs.Responses.{line}
 use Rattle.dh_command.specs.StepsReplies.{AreNamed}
 use Rattle.dh_command.specs.Statuses.{why_status}
@@ -99,6 +100,6 @@ is_refusal status.Ok = false
 is_refusal status.Write = false
 is_refusal _ = true
 
--- nothing to standard output, and one line to standard error
-abbrev pub TellsOneLine : Output → Output → Type 0
-TellsOneLine out err = Gains out [] × ((told : List ℕ) × Gains err (line told))
+-- nothing to standard output, and one line to standard error, which is `out of memory` where the status says so
+abbrev pub TellsOneLine : Status → Output → Output → Type 0
+TellsOneLine s out err = Gains out [] × ((told : List ℕ) × (s ≡ status.Memory → told ≡ memory_line) × Gains err (line told))

@@ -185,16 +185,20 @@ pub data AtFirst {D : Type 0} (P : D → D → Type 0) : List D → List D → T
 
 -- ---- a run over desks
 
--- How the record of a command on a text comes about: by a lawful history over the root. Where nothing is resolved, it is empty, nothing
--- is asked for, and nothing is kept.
+-- The desks are left alone.
+abbrev pub IsLeftAlone : Outside → Type 0
+IsLeftAlone o = (o.filed_after ≡ o.filed_before) × (o.faults_after ≡ o.faults_before) × (o.asked_after ≡ o.asked_before)
+
+-- How the record of a command on a text comes about: by a lawful history over the root. Where nothing is resolved, it is empty, and the
+-- desks are left alone.
 pub data Finds (v : Verb) (text : List ℕ) (o : Outside) (r : Record) : Type 0 where
   finds : (root : Term) (end : RootEnd) (pairs : List Pair) (steps : List Event) → IsTrue (does_resolve v) → ParsesTo text (Ok root) → IsHistory root r steps → AsksFor o steps → IsFound o r
       → EndsBy r root end → KeepsBy r root end pairs
       → (files : FilesAll (first_of 0 o.faults_before) (first_of 0 o.faults_after) o.filed_before o.filed_after pairs) → AreFaults o r pairs files.kept → Finds v text o r
-  leaves : r ≡ nothing_found → o.filed_after ≡ o.filed_before → o.asked_after ≡ o.asked_before → (does_resolve v ≡ false → o.faults_after ≡ o.faults_before) → Finds v text o r
+  leaves : r ≡ nothing_found → IsLeftAlone o → Finds v text o r
 
 -- what the first desk has kept where memory is wanting: nothing, or some of what the run keeps
 pub data FilesPart (v : Verb) (text : List ℕ) (o : Outside) : Type 0 where
   files_none : o.filed_after ≡ o.filed_before → FilesPart v text o
-  files_some : (root : Term) (end : RootEnd) (r : Record) (pairs kept : List Pair) → IsTrue (does_resolve v) → ParsesTo text (Ok root) → IsFound o r → EndsBy r root end
-      → KeepsBy r root end pairs → FilesSome o.filed_before o.filed_after pairs kept → FilesPart v text o
+  files_some : (root : Term) (end : RootEnd) (r : Record) (pairs kept : List Pair) (steps : List Event) → IsTrue (does_resolve v) → ParsesTo text (Ok root) → IsHistory root r steps
+      → AsksFor o steps → IsFound o r → EndsBy r root end → KeepsBy r root end pairs → FilesSome o.filed_before o.filed_after pairs kept → FilesPart v text o

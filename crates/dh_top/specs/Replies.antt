@@ -10,6 +10,7 @@ use Rattle.dh_command.specs.Responses.{Response, answer, fault, line}
 use Rattle.dh_imports.specs.ImportFaults.{in_item}
 use Rattle.dh_command.specs.PlacedFaults.{ill_line_at}
 use Rattle.dh_command.specs.Words.{Word, command_of, operand_words}
+use Rattle.dh_explain.specs.RuleWords.{operand_text}
 use Rattle.dh_json.specs.FaultLines.{no_json_line}
 use Rattle.dh_steps.specs.declared.faults.StepFault.{StepFault}
 use Rattle.dh_steps.specs.declared.faults.StepFault.TheVariants as step
@@ -73,6 +74,10 @@ Lacks c input o = (words : List Word) → command_of words ≡ Ok c → LacksMem
 -- what is told of these places and this text, and written so
 abbrev pub Tells : List (List ℕ) → List ℕ → Response → Type 0
 Tells places text w = (s : StepsReply) × StepsAnswer places text s × (w ≡ steps_response s)
+
+-- what is told of the rules of typing that these operands name, and written so
+abbrev pub IsExplained : List Word → Response → Type 0
+IsExplained ops w = (text : List ℕ) × (operand_text 1 ops ≡ Ok text) × (w ≡ answer text)
 
 -- what is written of a step that cannot be made
 abbrev pub IsStepFault : StepFault → Response → Type 0

@@ -13,7 +13,7 @@ use Rattle.dh_imports.specs.Records.{Record}
 use Rattle.dh_syntax.specs.Limits.{most_bytes}
 use Rattle.dh_command.specs.Words.{Word, reads, command_of, operand_words}
 use Rattle.dh_session.specs.Works.{AtLast}
-use Rattle.dh_top.specs.Outside.{Outside, Finds, FilesPart, nothing_found, total}
+use Rattle.dh_top.specs.Outside.{Outside, Finds, FilesPart, IsLeftAlone, nothing_found, total}
 
 -- the input before and after a run: what is left, where that is known, and how many reads have failed
 pub record Input : Type 0 where
@@ -47,10 +47,6 @@ IsQuiet input = input.faults_after ≡ input.faults_before
 abbrev pub IsTaken : List ℕ → Input → Type 0
 IsTaken text input =
     IfSome input.before (λ left. text ≡ left) × Consumes input.before input.after (take most_read text) × IsQuiet input
-
--- The desks are left alone.
-abbrev pub IsLeftAlone : Outside → Type 0
-IsLeftAlone o = (o.filed_after ≡ o.filed_before) × (o.faults_after ≡ o.faults_before) × (o.asked_after ≡ o.asked_before)
 
 -- The input is left alone.
 abbrev pub IsLeft : Input → Type 0

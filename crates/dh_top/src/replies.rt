@@ -12,7 +12,7 @@ use crate::encoding::encoding;
 use crate::inputs::{InputFault, read_input};
 use crate::resolving::resolving;
 use crate::steps::stepping;
-use crate::telling::{help, version};
+use crate::telling::{explain, help, version};
 use crate::words::{operands_of, read_words};
 use dh_command::{Command, Status, Verb};
 use dh_ports::{Desk, Feed, Gate, World};
@@ -106,6 +106,7 @@ fn answer<
             resolving::<R, W, D, G>(rt, alloc, command, input, desks, gate)
         }
         Verb::Steps => stepping(alloc, operands, input),
+        Verb::Explain => explain(alloc, operands),
         Verb::Help => help(alloc),
         Verb::Version => version(alloc),
     }

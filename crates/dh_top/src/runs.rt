@@ -58,8 +58,8 @@ pub fn run_dhall<
         (outside W.told W.shelved (λ d. D.asked d) (λ d. D.faults d) (λ d. D.filed d) desks.old.items desks.new.items) result }
 
     // With each status but `Ok` and `Write`, also where memory is wanting, standard output is as it was, and standard error has one
-    // line more.
-    ensures one_line { IsTrue (is_refusal result) → TellsOneLine
+    // line more: with `Memory` the line `out of memory`.
+    ensures one_line { IsTrue (is_refusal result) → TellsOneLine result
         (output (O.written out.old) (O.written out.new) (O.faults out.old) (O.faults out.new))
         (output (E.written err.old) (E.written err.new) (E.faults err.old) (E.faults err.new)) }
 

@@ -1,12 +1,23 @@
-//! What the program tells of itself: the page of help, and its version.
+//! What the program tells of itself: the rules of typing, the page of help, and its version.
 
-ghost use Rattle.std.specs.Prelude.{◌≡◌, IfOk};
+ghost use Rattle.std.specs.Prelude.{◌≡◌, IfOk, IsOk, map, string_bytes};
 ghost use Rattle.dh_command.specs.Responses.{answer as answer_of};
 ghost use Rattle.dh_command.specs.Telling.{help_text, version_text};
-ghost use Rattle.dh_top.specs.Replies.{written};
+ghost use Rattle.dh_explain.specs.RuleWords.{operand_text};
+ghost use Rattle.dh_top.specs.Replies.{written, IsExplained};
 
 use crate::replies::Reply;
+use dh_explain::told;
 use std::alloc::{AllocError, Global};
+
+/// What the rule of typing wants that the operands name, or the list of the rules where there are no operands.
+pub(crate) fn explain(alloc: Global, operands: &[String]) -> Result<Reply, AllocError>
+    requires { IsOk (operand_text 1 (map string_bytes operands.now)) }
+    ensures { IfOk result (λ r. IsExplained (map string_bytes operands.now) (written r)) }
+{
+    let text = String::from_str(alloc, told(operands))?;
+    Ok(Reply::answer(alloc, text.into_bytes()))
+}
 
 /// The commands with what they do, and the exit statuses, a line each.
 pub(crate) fn help(alloc: Global) -> Result<Reply, AllocError>
@@ -24,6 +35,7 @@ pub(crate) fn help(alloc: Global) -> Result<Reply, AllocError>
          to-json: prints the JSON text of its normal form\n\
          freeze: writes the input with a digest behind each import that has none\n\
          steps PLACE..: prints the expression after one step at each place, and whether it is normal\n\
+         explain [RULE]: prints what a rule of typing wants, or the list of the rules; reads no input\n\
          help, --help, -h: prints this page\n\
          --version: prints the version of the program and of the standard\n\
          status 0: the answer was written\n\

@@ -150,7 +150,7 @@ fn typed_reply(alloc: Global, verb: Verb, e: &Expr, typed: &Expr) -> Result<Repl
         Verb::Hash => hash_reply(alloc, e),
         Verb::ToJson => json_reply(alloc, e),
         Verb::Encode | Verb::Decode | Verb::Resolve | Verb::Freeze => unreachable!(),
-        Verb::Steps | Verb::Help | Verb::Version => unreachable!(),
+        Verb::Steps | Verb::Explain | Verb::Help | Verb::Version => unreachable!(),
     }
 }
 

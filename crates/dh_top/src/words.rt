@@ -1,12 +1,13 @@
 //! The words of the command line.
 
-ghost use Rattle.std.specs.Prelude.{◌≡◌, ◌≤◌, Ok, Err, map, string_bytes, codes, MatchResult};
+ghost use Rattle.std.specs.Prelude.{◌≡◌, ◌≤◌, ℕ, Ok, Err, map, string_bytes, codes, MatchResult};
 ghost use Rattle.std.specs.Char.{is_ascii_digit};
 ghost use Rattle.std.specs.List.{list_all};
 ghost use Rattle.dh_syntax.specs.Expressions.Numbers.{bytes_eq};
 ghost use Rattle.dh_command.specs.Words.{verb_of, is_count, workers_of, operands, counted, options, command_of, behind_workers, operand_words};
 
 use dh_command::{Command, Verb};
+use dh_explain::check_rule;
 use dh_steps::check_places;
 use dh_syntax::{DEFAULT_WORKERS, MOST_WORKERS};
 
@@ -32,6 +33,8 @@ fn verb_named(word: &str) -> Option<Verb>
         Some(Verb::Freeze)
     } else if word == "steps" {
         Some(Verb::Steps)
+    } else if word == "explain" {
+        Some(Verb::Explain)
     } else if word == "help" {
         Some(Verb::Help)
     } else if word == "--help" {
@@ -84,6 +87,21 @@ fn workers_of(word: &str) -> Option<u32>
     }
 }
 
+/// Whether these words, of which the first is the word of this number, may be the operands of a command. `Err` is the number of the
+/// first of them that may not.
+fn check_operands(verb: Verb, at: u32, rest: &[String]) -> Result<(), u32>
+    requires { at ≤ 4 }
+    ensures { MatchResult result
+        (λ _. (workers : ℕ) → operands verb workers at (map string_bytes rest.now) ≡ Ok (record { verb = verb; workers = workers }))
+        (λ k. (workers : ℕ) → operands verb workers at (map string_bytes rest.now) ≡ Err k) }
+{
+    if verb.takes_rule() {
+        check_rule(at, rest)
+    } else {
+        check_places(verb.most_operands(), at, rest)
+    }
+}
+
 /// A command with its operands, which begin at the word of this number.
 fn with_operands(verb: Verb, workers: u32, at: u32, rest: &[String]) -> Result<Command, u32>
     requires { at ≤ 4 }
@@ -91,7 +109,7 @@ fn with_operands(verb: Verb, workers: u32, at: u32, rest: &[String]) -> Result<C
         (λ c. operands verb workers at (map string_bytes rest.now) ≡ Ok c)
         (λ k. operands verb workers at (map string_bytes rest.now) ≡ Err k) }
 {
-    match check_places(verb.most_operands(), at, rest) {
+    match check_operands(verb, at, rest) {
         Ok(()) => Ok(Command { verb, workers }),
         Err(k) => Err(k),
     }

@@ -36,6 +36,25 @@ fn kept_by(alloc: Global, desks: &[MemDesk]) -> Result<Vec<Entry>, AllocError> {
     Ok(kept)
 }
 
+/// Standard input of these bytes, which gives them as a case says.
+fn feed_of(alloc: Global, case: &Case, input: &[u8]) -> Result<MemFeed, AllocError> {
+    let bytes = bytes_of(alloc, input)?;
+    let fails = calls_of(alloc, &case.failing.read)?;
+    if case.narrow.read {
+        return Ok(MemFeed::narrow(alloc, bytes, fails));
+    }
+    Ok(MemFeed::new(alloc, bytes, fails))
+}
+
+/// An output, narrow or not, of which these calls fail.
+fn sink_of(alloc: Global, narrow: bool, fails: &Vec<u64>) -> Result<MemSink, AllocError> {
+    let fails = calls_of(alloc, fails)?;
+    if narrow {
+        return Ok(MemSink::narrow(alloc, fails));
+    }
+    Ok(MemSink::new(alloc, fails))
+}
+
 /// Runs one command on an input, over what a case says is outside.
 fn run_command<R: Threads + Wait + Sync>(
     rt: &R,
@@ -48,10 +67,9 @@ fn run_command<R: Threads + Wait + Sync>(
     if desks.is_empty() {
         return Err(CannotRun::NoDesk);
     }
-    let bytes = bytes_of(alloc, input)?;
-    let mut feed = MemFeed::new(alloc, bytes, calls_of(alloc, &case.failing.read)?);
-    let mut out = MemSink::new(alloc, calls_of(alloc, &case.failing.out)?);
-    let mut err = MemSink::new(alloc, calls_of(alloc, &case.failing.err)?);
+    let mut feed = feed_of(alloc, case, input)?;
+    let mut out = sink_of(alloc, case.narrow.out, &case.failing.out)?;
+    let mut err = sink_of(alloc, case.narrow.err, &case.failing.err)?;
     let status = run_dhall::<R, Silent, MemDesk, MemFeed, MemSink, MemSink, OpenGate>(
         rt, alloc, words, &mut desks, &mut feed, &mut out, &mut err, &OpenGate,
     );

@@ -1,7 +1,7 @@
 use Rattle.std.proofs.Common.{map, refl, string_bytes, subst}
 use Rattle.dh_command.specs.Words.{AreFit}
 use Rattle.dh_command.specs.declared.verbs.Verb.TheVariants as verb
-use Rattle.dh_top.proofs.Encodings.{alone_for, answers_with, helps_any, part_none, tells_version_any, with_operands}
+use Rattle.dh_top.proofs.Encodings.{alone_for, explains_any, helps_any, part_none, tells_version_any, with_operands}
 use Rattle.dh_top.proofs.replies.answer.Goals as goal
 
 pub returns-in-Encode-clause-answers : goal.returns-in-Encode-clause-answers
@@ -15,6 +15,16 @@ returns-in-Decode-clause-answers g c = alone_for c.args.command.verb verb.Decode
 
 pub returns-in-Decode-clause-lacks : goal.returns-in-Decode-clause-lacks
 returns-in-Decode-clause-lacks g c = part_none c.args.command.verb c.args.input.now _ c.decoding.result refl
+
+pub returns-in-Explain-clause-answers : goal.returns-in-Explain-clause-answers
+returns-in-Explain-clause-answers g c =
+    alone_for c.args.command.verb verb.Explain _ c.args.input.now _ c.explain.result c.in-Explain.is refl (refl, refl, refl) (explains_any c.explain.result _ c.args.input.now c.explain.ensures)
+
+pub returns-in-Explain-clause-lacks : goal.returns-in-Explain-clause-lacks
+returns-in-Explain-clause-lacks g c = part_none c.args.command.verb c.args.input.now _ c.explain.result refl
+
+pub explain-requires : goal.explain-requires
+explain-requires g c = subst (λ v. AreFit v (map string_bytes c.args.operands.now)) c.in-Explain.is c.requires.fit
 
 pub returns-in-Help-clause-answers : goal.returns-in-Help-clause-answers
 returns-in-Help-clause-answers g c =

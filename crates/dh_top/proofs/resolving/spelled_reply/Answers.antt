@@ -66,7 +66,8 @@ returns-in-Ok-clause-lacks g c =
 
 pub returns-in-Err-TooMany-clause-answers : goal.returns-in-Err-TooMany-clause-answers
 returns-in-Err-TooMany-clause-answers g c =
-    too_many_answered c.why_reply.result c.args.command.verb c.args.text.now (term c.args.e) _ _ refl c.requires.resolves c.requires.spelled (ap (first_of None) c.resolve_all.ensures.filed) (ap (map (λ d. g.D.Desk.asked d)) (c.in-Err-TooMany.ensures.alone c.in-Err-TooMany.field-0-is))
+    too_many_answered c.why_reply.result c.args.command.verb c.args.text.now (term c.args.e) _ _ refl c.requires.resolves c.requires.spelled
+    (ap (first_of None) c.resolve_all.ensures.filed, ap (map (λ d. g.D.Desk.faults d)) (c.in-Err-TooMany.ensures.alone c.in-Err-TooMany.field-0-is), ap (map (λ d. g.D.Desk.asked d)) (c.in-Err-TooMany.ensures.alone c.in-Err-TooMany.field-0-is))
     (c.in-Err-TooMany.ensures.too_many c.in-Err-TooMany.field-0-is) c.why_reply.ensures
 
 pub returns-in-Err-TooMany-clause-lacks : goal.returns-in-Err-TooMany-clause-lacks

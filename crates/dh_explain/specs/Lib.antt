@@ -1,0 +1,4 @@
+pub mod Explanations
+pub mod Explained
+pub mod RuleTexts
+pub mod RuleWords
