@@ -1,0 +1,12 @@
+pub mod Asking
+pub mod Contents
+pub mod Counting
+pub mod Depending
+pub mod Editing
+pub mod Kept
+pub mod Overflowing
+pub mod Running
+pub mod ScriptExamples
+pub mod ScriptLines
+pub mod Sweeping
+pub mod Visiting
