@@ -2,7 +2,8 @@
 """Times the built program on named inputs and graphs of imports of growing size.
 
 For each input and size it prints the time of a run, its greatest memory, and the time beside that of the size before; for a
-graph that for each number of workers, and the time beside that of one worker. The least of a few runs counts, since other work
+graph that for each number of workers, and the time beside that of one worker. For files of a batch it also prints the time of a run of
+`hash` for each of them, one after the other. The least of a few runs counts, since other work
 on the machine only adds. With --compare it runs another Dhall program on the same inputs and graphs, and prints its time and
 memory beside them. That is given by its path, takes the same commands, and reads standard input; its workers are its own. Plain
 Python 3, some minutes for the inputs, and some for the graphs.
@@ -298,6 +299,29 @@ def choice(n):
     return items(["(./missing.dhall ? ./x.dhall)"] * n), [("x.dhall", "1\n")]
 
 
+# ---- files of a batch: the files that are named, and all files with their texts
+
+def alone(n):
+    """Files of ordinary code, each on its own: the work is typing and normalising."""
+    files = [(f"b{i}.dhall", services(i)) for i in range(n)]
+    return [name for name, _ in files], files
+
+
+def frozen(program, folder, name):
+    """The import of a file with its digest."""
+    digest = run(program, ["hash"], f"./{name}".encode(), folder)[3].decode().strip()
+    return f"./{name} {digest}"
+
+
+def shared(n, program, folder, parts=32):
+    """Files that each use all parts of one library, every part a frozen import; the cache has them from a run before."""
+    library = [(f"part{i}.dhall", services(i)) for i in range(parts)]
+    put(folder, library)
+    imports = [frozen(program, folder, name) for name, _ in library]
+    files = [(f"b{i}.dhall", "[ " + ", ".join(f"({it}).cpu" for it in imports) + f", {i} ]\n") for i in range(n)]
+    return [name for name, _ in files], library + files
+
+
 TEXTS = [
     ("sum in brackets", brackets, [10240, 20480, 40960]),
     ("record", record, [5000, 10000, 20000, 40000]),
@@ -393,16 +417,21 @@ def show(given, command, name, sizes, make):
         before = ran[0]
 
 
-def write(folder, graph):
-    """The root of a graph, whose files are written into the folder, and the length of all together."""
+def put(folder, files):
+    """Writes files into a folder, and tells the length of all together."""
     os.makedirs(folder, exist_ok=True)
-    root, files = graph
-    length = len(root)
+    length = 0
     for name, text in files:
         length += len(text)
         with open(os.path.join(folder, name), "w") as out:
             out.write(text)
-    return root.encode(), length
+    return length
+
+
+def write(folder, graph):
+    """The root of a graph, whose files are written into the folder, and the length of all together."""
+    root, files = graph
+    return root.encode(), len(root) + put(folder, files)
 
 
 def show_graph(given, command, name, sizes, make, workers, folder):
@@ -433,6 +462,44 @@ def show_graphs(given, folder):
             show_graph(given, command, name, sizes, make, [4], folder)
 
 
+def one_by_one(program, names, folder):
+    """The time of a run of `hash` for each file, and whether all end well."""
+    runs = [run(program, ["hash"], f"./{name}".encode(), folder) for name in names]
+    return sum(it[0] for it in runs), all(it[2] == 0 for it in runs)
+
+
+def show_batch(given, name, files, folder):
+    names, texts = files
+    length = put(folder, texts)
+    best(given.program, ["batch", *names], b"", 1, folder)  # the cache has then what is frozen
+    apart, well = min(one_by_one(given.program, names, folder) for _ in range(given.tries))
+    one = None
+    for w in WORKERS:
+        ran = best(given.program, ["batch", "--workers", str(w), *names], b"", given.tries, folder)
+        one = ran[0] if w == 1 else one
+        ends = f"{ran[2]}, {len(ran[3].splitlines())} lines" + ("" if well else "; a run of hash failed")
+        print(f"| batch | {name} | {len(names)} | {length} | {w} | {ran[0]:.3f} | {ran[1]:.0f} | {one / ran[0]:.2f} | {apart:.3f} | {apart / ran[0]:.1f} | {ends} |", flush=True)
+
+
+def show_generated(given, n):
+    one = None
+    for w in WORKERS:
+        ran = best(given.program, ["gen", "--workers", str(w), str(n)], b"", given.tries)
+        one = ran[0] if w == 1 else one
+        print(f"| gen | list of generated texts | {n} | 0 | {w} | {ran[0]:.3f} | {ran[1]:.0f} | {one / ran[0]:.2f} | | | {ran[2]} {' '.join(ran[3].decode().split()[:4])} |", flush=True)
+
+
+def show_batches(given, folder):
+    os.environ["XDG_CACHE_HOME"] = os.path.join(folder, "cache")
+    head(argparse.Namespace(compare=None), ["Command", "Files", "Number", "Bytes in", "Workers", "Seconds", "MB", "One worker to this", "One run each", "That to this", "Ends with"])
+    if given.command in (None, "batch"):
+        show_batch(given, "files of 10 KB", alone(256), os.path.join(folder, "alone"))
+        place = os.path.join(folder, "shared")
+        show_batch(given, "files that share 32 frozen imports", shared(256, given.program, place), place)
+    if given.command in (None, "gen"):
+        show_generated(given, 4000)
+
+
 def show_inputs(given):
     head(given, ["Command", "Input", "Size", "Bytes in", "Seconds", "MB", "Growth", "Ends with"])
     for name, make, sizes in TEXTS:
@@ -456,7 +523,7 @@ def main():
     parser.add_argument("--compare", metavar="OTHER", help="another program that takes the same commands, to be run beside it")
     parser.add_argument("--command", help="only this command")
     parser.add_argument("--tries", type=int, default=3)
-    parser.add_argument("--part", choices=["inputs", "graphs"], help="only the inputs alone, or only the graphs of imports")
+    parser.add_argument("--part", choices=["inputs", "graphs", "batches"], help="only the inputs alone, the graphs of imports, or the files of a batch and `gen`")
     parser.add_argument("--folder", help="where the files of the graphs are written (left out: a folder that is removed)")
     given = parser.parse_args()
     given.program = os.path.abspath(given.program)
@@ -466,13 +533,16 @@ def main():
         given.compare = os.path.abspath(given.compare)
         if not os.access(given.compare, os.X_OK):
             sys.exit(f"no program at {given.compare}")
-    if given.part != "graphs":
+    if given.part in (None, "inputs"):
         show_inputs(given)
-    if given.part != "inputs" and given.folder:
-        show_graphs(given, os.path.abspath(given.folder))
-    elif given.part != "inputs":
-        with tempfile.TemporaryDirectory() as folder:
-            show_graphs(given, folder)
+    for part, show_part in (("graphs", show_graphs), ("batches", show_batches)):
+        if given.part not in (None, part):
+            continue
+        if given.folder:
+            show_part(given, os.path.abspath(given.folder))
+        else:
+            with tempfile.TemporaryDirectory() as folder:
+                show_part(given, folder)
 
 
 if __name__ == "__main__":

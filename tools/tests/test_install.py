@@ -20,7 +20,7 @@ HERE = os.path.dirname(os.path.abspath(__file__))
 ROOT = os.path.dirname(os.path.dirname(HERE))
 DHALL = os.path.abspath(os.environ.get("DHALL", f"{ROOT}/crates/dhall/out/dhall"))
 BASH_COMPLETION = "/usr/share/bash-completion/bash_completion"
-COMMANDS = ["encode", "decode", "resolve", "type", "normalize", "hash", "to-json", "freeze", "steps", "explain", "help"]
+COMMANDS = ["encode", "decode", "resolve", "type", "normalize", "hash", "to-json", "freeze", "batch", "steps", "gen", "explain", "help"]
 
 sys.path.insert(0, f"{ROOT}/tools")
 import commands

@@ -1,6 +1,7 @@
 pub mod CalmAsks
 pub mod DishonestExample
 pub mod LicencesMoved
+pub mod OneWorld
 pub mod SameCode
 pub mod SameLicences
 pub mod SameTrees

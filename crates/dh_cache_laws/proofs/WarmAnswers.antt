@@ -139,9 +139,11 @@ PrintsOf e t verb.Hash a = (f : Term) × HasNormalForm names e f × (a ≡ diges
 PrintsOf e t verb.ToJson a = (f : Term) × (d : Data) × HasNormalForm names e f × (json f ≡ Ok d) × (a ≡ compact_text d)
 PrintsOf e t verb.Freeze a = ⊥
 PrintsOf e t verb.Steps a = ⊥
+PrintsOf e t verb.Gen a = ⊥
 PrintsOf e t verb.Explain a = ⊥
 PrintsOf e t verb.Help a = ⊥
 PrintsOf e t verb.Version a = ⊥
+PrintsOf e t verb.Batch a = ⊥
 
 prints-of : (e t : Term) (v : Verb) (a : List ℕ) → Prints e t v a → PrintsOf e t v a
 prints-of e t _ _ (its_type h) = refl
@@ -170,9 +172,11 @@ prints-same verb.Decode e d t u a b s q h k = absurd h
 prints-same verb.Resolve e d t u a b s q h k = absurd h
 prints-same verb.Freeze e d t u a b s q h k = absurd h
 prints-same verb.Steps e d t u a b s q h k = absurd h
+prints-same verb.Gen e d t u a b s q h k = absurd h
 prints-same verb.Explain e d t u a b s q h k = absurd h
 prints-same verb.Help e d t u a b s q h k = absurd h
 prints-same verb.Version e d t u a b s q h k = absurd h
+prints-same verb.Batch e d t u a b s q h k = absurd h
 
 abbrev has_value : Result Data (List ℕ) → Bool
 has_value (Ok d) = true
@@ -270,7 +274,7 @@ plain-answer_of v text plain p root h ok (faulty b ends f) = fault-no_ok plain b
 plain-answer_of v text plain p root h ok (circular j ends f) = fault-no_ok plain (cycle_at j) p ok f
 plain-answer_of v text plain p root h ok (overfull ends f) = fault-no_ok plain too_many_keys p ok f
 
-plain-answer : (v : Verb) (ops : List Word) (text : List ℕ) (plain : Record) (p : Response) → IsTrue (resolves v) → p.status ≡ status.Ok → Does v ops text plain p → PlainAnswer v text plain p
+pub plain-answer : (v : Verb) (ops : List Word) (text : List ℕ) (plain : Record) (p : Response) → IsTrue (resolves v) → p.status ≡ status.Ok → Does v ops text plain p → PlainAnswer v text plain p
 plain-answer v ops text plain p t ok (answers.encodes e h k q) = unless-resolved v verb.Encode t h refl
 plain-answer v ops text plain p t ok (answers.decodes e h k l q) = unless-resolved v verb.Decode t h refl
 plain-answer v ops text plain p t ok (answers.decodes_none h k q) = unless-resolved v verb.Decode t h refl

@@ -1,3 +1,4 @@
+pub mod OneWorld
 pub mod SameTyping
 pub mod WarmAnswers
 pub mod WarmCache

@@ -21,7 +21,8 @@ pub record AreLinesOfSame (a b : List ℕ) : Type 0 where
   pub first_is : a ≡ line (text_of first)
   pub second_is : b ≡ line (text_of second)
 
--- `hash`, `to-json` and `freeze` write the same bytes; `resolve`, `type` and `normalize` write expressions that differ only in the names of binders
+-- `hash`, `to-json` and `freeze` write the same bytes; `resolve`, `type` and `normalize` write expressions that differ only in the
+-- names of binders
 abbrev pub AreSameLines : Verb → List ℕ → List ℕ → Type 0
 AreSameLines verb.Encode a b = ⊥
 AreSameLines verb.Decode a b = ⊥
@@ -32,9 +33,11 @@ AreSameLines verb.Hash a b = a ≡ b
 AreSameLines verb.ToJson a b = a ≡ b
 AreSameLines verb.Freeze a b = a ≡ b
 AreSameLines verb.Steps a b = ⊥
+AreSameLines verb.Gen a b = ⊥
 AreSameLines verb.Explain a b = ⊥
 AreSameLines verb.Help a b = ⊥
 AreSameLines verb.Version a b = ⊥
+AreSameLines verb.Batch a b = ⊥
 
 -- Where the answer without the cache has the status 0, so has the answer over what the run found with the cache, unless that names a
 -- limit, and both write the same but for the names of binders.

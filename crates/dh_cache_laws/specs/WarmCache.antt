@@ -68,7 +68,8 @@ pub record AreSameEntries (r : Record) (ask : Ask) (root : Term) (plain : Record
       → Visited r ask root k → k.digest ≡ Some d → look_at r d ≡ Some (found.Good bytes e)
       → (v : Term) × (origin : Origin) × Resolves plain k (Good v origin) × IsSame v e
 
--- With so much to spend the resolver decides the root of the run, and the good entries that the run asks by then are what it gives without them.
+-- With so much to spend the resolver decides the root of the run, and the good entries that the run asks by then are what it gives
+-- without them.
 pub record IsWarm (r : Record) (root : Term) (plain : Record) : Type 0 where
   pub agree : AgreesWith r plain
   pub spend : ℕ

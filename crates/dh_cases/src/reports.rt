@@ -54,7 +54,7 @@ impl Tally {
         self.runs > 0 && self.differ == 0 && self.broken == 0
     }
 
-    /// Both counts together.
+    /// Both tallies together. A sum that does not fit stands still at the last value.
     pub fn plus(&self, other: &Tally) -> Tally
         ensures runs { (result.runs ≡ 0) ↔ ((self.now.runs ≡ 0) × (other.now.runs ≡ 0)) }
         ensures differ { (result.differ ≡ 0) ↔ ((self.now.differ ≡ 0) × (other.now.differ ≡ 0)) }

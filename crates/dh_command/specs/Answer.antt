@@ -1,5 +1,5 @@
 -- What the command writes and how it ends, for every list of words and every input.
-use Rattle.std.specs.Prelude.{◌≡◌, ◌≤◌, ◌<◌, ◌⊎◌, ℕ, IsTrue, List, [], ◌∷◌, ◌++◌, drop, length, Option, Some, None, Result, Ok, Err, ⊤}
+use Rattle.std.specs.Prelude.{◌≡◌, ◌≤◌, ◌<◌, ◌⊎◌, ℕ, IsTrue, List, [], ◌∷◌, ◌++◌, codes, drop, length, Option, Some, None, Result, Ok, Err, ⊤}
 use Rattle.dh_command.specs.declared.commands.Command.{Command}
 use Rattle.dh_syntax.specs.declared.faults.DecodeFault.{DecodeFault}
 use Rattle.dh_syntax.specs.declared.faults.Ill.{Ill}
@@ -18,7 +18,7 @@ use Rattle.dh_command.specs.declared.verbs.Verb.TheVariants as verb
 use Rattle.dh_syntax.specs.Bytes.Binary.{enc}
 use Rattle.dh_syntax.specs.Bytes.BinaryFaults.{DecodesTo}
 use Rattle.dh_syntax.specs.FaultLines.{decode_fault_line, norm_fault_line}
-use Rattle.dh_command.specs.Responses.{Response, answer, fault, line, misspelt, misused}
+use Rattle.dh_command.specs.Responses.{Response, answer, fault, line, misspelt, misused, without_memory}
 use Rattle.dh_imports.specs.FrozenTexts.{IsFrozenText}
 use Rattle.dh_imports.specs.ImportFaults.{ill_of, in_item, why_line}
 use Rattle.dh_command.specs.Statuses.{why_status}
@@ -28,6 +28,9 @@ use Rattle.dh_command.specs.StepsReplies.{AreNamed, OperandsSucceed, steps_respo
 use Rattle.dh_steps.specs.StepsAnswer.{StepsAnswer, StepsReply}
 use Rattle.dh_command.specs.Words.{Word, command_of, operand_words, resolves, types, takes_form}
 use Rattle.dh_explain.specs.RuleWords.{operand_text}
+use Rattle.dh_files.specs.FileWords.{file_text}
+use Rattle.dh_gen.specs.Generated.{list_text}
+use Rattle.dh_gen.specs.NumberWords.{operand_number}
 use Rattle.dh_json.specs.FaultLines.{no_json_line}
 use Rattle.dh_json.specs.JsonValue.{json}
 use Rattle.dh_syntax.specs.Expressions.Nesting.{nesting}
@@ -50,6 +53,10 @@ use Rattle.dh_syntax.specs.Typing.NamedTyping.{HasType, IsIll, IsTypeLimit}
 use Rattle.serde_json.specs.Data.{Data}
 use Rattle.serde_json.specs.Written.{compact_text}
 
+-- the record where nothing is resolved
+abbrev pub nothing_found : Record
+nothing_found = record { texts = []; looks = []; limits = [] }
+
 -- ---- the commands
 
 -- `encode` writes the binary form of the expression that the input spells, or the fault of the input
@@ -62,7 +69,7 @@ abbrev pub decoded : Result Term DecodeFault → Response
 decoded (Ok e) = answer (line (text_of e))
 decoded (Err f) = fault (decode_fault_line f) status.Text
 
--- ---- `resolve`, `type`, `normalize`, `hash` and `freeze`
+-- ---- `resolve`, `type`, `normalize`, `hash`, `to-json` and `freeze`
 
 -- some number of units gives the expression this type
 abbrev pub IsTyped : Term → Term → Type 0
@@ -146,10 +153,54 @@ pub data Does (v : Verb) (ops : List Word) (input : List ℕ) (r : Record) (w : 
   helps : v ≡ verb.Help → w ≡ answer help_text → Does v ops input r w
   tells_version : v ≡ verb.Version → w ≡ answer version_text → Does v ops input r w
 
+-- ---- `batch`
+
+-- what is written of the file that a word names: what `hash` writes of its import, over what was found for it; or, where memory was
+-- wanting for that, what is written then
+pub data FileAnswer (word : Word) (r : Record) (w : Response) : Type 0 where
+  hashes_file : Does verb.Hash [] (file_text word) r w → FileAnswer word r w
+  file_lacks_memory : r ≡ nothing_found → w ≡ without_memory → FileAnswer word r w
+
+-- the same for each file, in their order
+pub data FileAnswers : List Word → List Record → List Response → Type 0 where
+  no_file : FileAnswers [] [] []
+  a_file : {word : Word} {words : List Word} {r : Record} {rs : List Record} {w : Response} {ws : List Response}
+      → FileAnswer word r w → FileAnswers words rs ws → FileAnswers (word ∷ words) (r ∷ rs) (w ∷ ws)
+
+-- the line of a file: the word that names it, and its digest or what is told of its fault
+abbrev pub file_line : Word → Response → List ℕ
+file_line word w = word ++ codes ": " ++ (w.out ++ w.err)
+
+-- the lines of files
+abbrev pub file_lines : List Word → List Response → List ℕ
+file_lines (word ∷ words) (w ∷ ws) = file_line word w ++ file_lines words ws
+file_lines _ _ = []
+
+-- a status, or what follows where all is well
+abbrev pub unless_ok : Status → Status → Status
+unless_ok status.Ok s = s
+unless_ok t s = t
+
+-- the status of the first file that is not answered by its digest
+abbrev pub first_fault : List Response → Status
+first_fault [] = status.Ok
+first_fault (w ∷ ws) = unless_ok w.status (first_fault ws)
+
+-- the lines of all files on standard output, those of faults too
+abbrev pub batched : List Word → List Response → Response
+batched words ws = record { out = file_lines words ws; err = []; status = first_fault ws }
+
+-- ---- all commands
+
+-- What a command with these operands writes, over what the run found: one record for its input, or one for each of its files.
+pub data DoesAll (v : Verb) (ops : List Word) (input : List ℕ) (rs : List Record) (w : Response) : Type 0 where
+  on_input : (r : Record) → rs ≡ r ∷ [] → Does v ops input r w → DoesAll v ops input rs w
+  on_files : (ws : List Response) → v ≡ verb.Batch → FileAnswers ops rs ws → w ≡ batched ops ws → DoesAll v ops input rs w
+
 -- the answer to these words and this input, over what the run found
-pub data CommandAnswer (words : List Word) (input : List ℕ) (r : Record) (w : Response) : Type 0 where
-  usage : (k : ℕ) → command_of words ≡ Err k → w ≡ misused k → CommandAnswer words input r w
-  does : (c : Command) → command_of words ≡ Ok c → Does c.verb (operand_words words) input r w → CommandAnswer words input r w
+pub data CommandAnswer (words : List Word) (input : List ℕ) (rs : List Record) (w : Response) : Type 0 where
+  usage : (k : ℕ) → command_of words ≡ Err k → w ≡ misused k → CommandAnswer words input rs w
+  does : (c : Command) → command_of words ≡ Ok c → DoesAll c.verb (operand_words words) input rs w → CommandAnswer words input rs w
 
 -- it has a type, and no limit may be named for its typing
 abbrev pub IsTypedInTime : Term → Type 0
@@ -173,7 +224,9 @@ SucceedsOn verb.Normalize e = IsTypedInTime e × IsNormalInTime e
 SucceedsOn verb.Hash e = IsTypedInTime e × IsNormalInTime e
 SucceedsOn verb.ToJson e = IsTypedInTime e × IsNormalInTime e × HasJson e
 SucceedsOn verb.Freeze e = ⊤
+SucceedsOn verb.Batch e = ⊥
 SucceedsOn verb.Steps e = ⊥
+SucceedsOn verb.Gen e = ⊥
 SucceedsOn verb.Explain e = ⊥
 SucceedsOn verb.Help e = ⊥
 SucceedsOn verb.Version e = ⊥
@@ -182,17 +235,32 @@ SucceedsOn verb.Version e = ⊥
 abbrev pub SucceedsBy : Verb → List ℕ → Record → Type 0
 SucceedsBy v input r = (root : Term) × (e : Term) × ParsesTo input (Ok root) × EndsBy r root (ready e) × SucceedsOn v e
 
--- the command with these operands answers this input with status 0, over what the run found
-abbrev pub Succeeds : Verb → List Word → List ℕ → Record → Type 0
-Succeeds verb.Encode ops input r = (e : Term) × ParsesTo input (Ok e)
-Succeeds verb.Decode ops input r = (e : Term) × (length input ≤ most_bytes) × DecodesTo input (Ok e)
-Succeeds verb.Resolve ops input r = SucceedsBy verb.Resolve input r
-Succeeds verb.Type ops input r = SucceedsBy verb.Type input r
-Succeeds verb.Normalize ops input r = SucceedsBy verb.Normalize input r
-Succeeds verb.Hash ops input r = SucceedsBy verb.Hash input r
-Succeeds verb.ToJson ops input r = SucceedsBy verb.ToJson input r
-Succeeds verb.Freeze ops input r = SucceedsBy verb.Freeze input r
-Succeeds verb.Steps ops input r = OperandsSucceed ops input
-Succeeds verb.Explain ops input r = ⊤
-Succeeds verb.Help ops input r = ⊤
-Succeeds verb.Version ops input r = ⊤
+-- the command with these operands answers its input with status 0, over what was found for that
+abbrev pub SucceedsOnInput : Verb → List Word → List ℕ → Record → Type 0
+SucceedsOnInput verb.Encode ops input r = (e : Term) × ParsesTo input (Ok e)
+SucceedsOnInput verb.Decode ops input r = (e : Term) × (length input ≤ most_bytes) × DecodesTo input (Ok e)
+SucceedsOnInput verb.Resolve ops input r = SucceedsBy verb.Resolve input r
+SucceedsOnInput verb.Type ops input r = SucceedsBy verb.Type input r
+SucceedsOnInput verb.Normalize ops input r = SucceedsBy verb.Normalize input r
+SucceedsOnInput verb.Hash ops input r = SucceedsBy verb.Hash input r
+SucceedsOnInput verb.ToJson ops input r = SucceedsBy verb.ToJson input r
+SucceedsOnInput verb.Freeze ops input r = SucceedsBy verb.Freeze input r
+SucceedsOnInput verb.Batch ops input r = ⊥
+SucceedsOnInput verb.Steps ops input r = OperandsSucceed ops input
+SucceedsOnInput verb.Gen ops input r = ⊥
+SucceedsOnInput verb.Explain ops input r = ⊤
+SucceedsOnInput verb.Help ops input r = ⊤
+SucceedsOnInput verb.Version ops input r = ⊤
+
+-- each of these files has a digest, over what was found for it
+abbrev pub FilesSucceed : List Word → List Record → Type 0
+FilesSucceed [] [] = ⊤
+FilesSucceed (word ∷ words) (r ∷ rs) = SucceedsBy verb.Hash (file_text word) r × FilesSucceed words rs
+FilesSucceed _ _ = ⊥
+
+-- the command with these operands answers with status 0, over what the run found
+pub data Succeeds (v : Verb) (ops : List Word) (input : List ℕ) (rs : List Record) : Type 0 where
+  input_succeeds : (r : Record) → rs ≡ r ∷ [] → SucceedsOnInput v ops input r → Succeeds v ops input rs
+  files_succeed : v ≡ verb.Batch → FilesSucceed ops rs → Succeeds v ops input rs
+  -- the list of the generated imports has a digest
+  list_succeeds : (n : ℕ) (r : Record) → v ≡ verb.Gen → operand_number 1 ops ≡ Ok n → rs ≡ r ∷ [] → SucceedsBy verb.Hash (list_text n) r → Succeeds v ops input rs

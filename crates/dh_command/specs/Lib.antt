@@ -1,4 +1,5 @@
 pub mod Answer
+pub mod Generating
 pub mod Lines
 pub mod PlacedFaults
 pub mod Responses

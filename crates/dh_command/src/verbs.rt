@@ -1,7 +1,7 @@
 //! The commands of the command line.
 
 ghost use Rattle.std.specs.Prelude.{◌≡◌};
-ghost use Rattle.dh_command.specs.Words.{most_operands, reads, takes_rule};
+ghost use Rattle.dh_command.specs.Words.{most_operands, reads, takes_files, takes_number, takes_rule};
 
 use dh_steps::MOST_PLACES;
 
@@ -24,8 +24,12 @@ pub enum Verb {
     ToJson,
     /// The input with the digest of its value behind each import that has none.
     Freeze,
+    /// For each file that is named, the digest of the normal form of its expression, or why there is none.
+    Batch,
     /// The expression that the input spells after one step at each place that is named, and whether it is normal.
     Steps,
+    /// How many imports and fetches a list of generated texts takes, and the digest of its normal form.
+    Gen,
     /// What a rule of typing wants, or which rules there are.
     Explain,
     /// What the commands and the exit statuses are.
@@ -43,7 +47,7 @@ impl Verb {
             Verb::Encode | Verb::Decode | Verb::Resolve => true,
             Verb::Type | Verb::Normalize | Verb::Hash | Verb::ToJson => true,
             Verb::Freeze | Verb::Steps => true,
-            Verb::Explain | Verb::Help | Verb::Version => false,
+            Verb::Batch | Verb::Gen | Verb::Explain | Verb::Help | Verb::Version => false,
         }
     }
 
@@ -63,6 +67,26 @@ impl Verb {
     {
         match self {
             Verb::Explain => true,
+            _ => false,
+        }
+    }
+
+    /// Whether the operands of the command are files.
+    pub fn takes_files(self) -> bool
+        ensures { result ≡ takes_files self }
+    {
+        match self {
+            Verb::Batch => true,
+            _ => false,
+        }
+    }
+
+    /// Whether the operand of the command is the number of a generated text.
+    pub fn takes_number(self) -> bool
+        ensures { result ≡ takes_number self }
+    {
+        match self {
+            Verb::Gen => true,
             _ => false,
         }
     }

@@ -1,3 +1,4 @@
 pub mod AnswerExamples
 pub mod ExplainExamples
+pub mod GenExamples
 pub mod ImportFaultExamples

@@ -5,6 +5,7 @@ ghost use Rattle.std.specs.Prelude.{None};
 use crate::tables::imports;
 use dh_ports::{Desk, DeskError, Gate, Got, Silent};
 use dh_session::{SessionFault, resolve_all};
+use dh_shelf::Shelf;
 use dh_syntax::{Bytes, Digest, Loc};
 use dh_table::Ended;
 use std::alloc::{AllocError, Global};
@@ -105,7 +106,8 @@ fn ended_past<T: Threads + Wait + Sync>(
         return Err(AllocError);
     }
     let root = imports(alloc, 1)?;
-    let answer = resolve_all::<_, Silent, _, _>(rt, alloc, desks, 2, root, gate);
+    let shelf = Shelf::new(alloc)?;
+    let answer = resolve_all::<_, Silent, _, _>(rt, alloc, desks, 2, &shelf, root, gate);
     Ok(match &answer {
         Ok(answered) => match &answered.ended {
             Ended::Ready(_) => "ready",

@@ -7,6 +7,7 @@ use dh_ports::{
     are_short,
 };
 use dh_session::{SessionFault, resolve_all};
+use dh_shelf::Shelf;
 use dh_syntax::{BoxedImport, Bytes, Digest, Expr, Import, Kid, Loc, Many, Mode, Op, Piece};
 use dh_table::Ended;
 use std::alloc::{AllocError, Global};
@@ -144,7 +145,10 @@ fn run_over<T: Threads + Wait + Sync, G: Gate + Sync>(
     if workers == 0 || desks.len() < workers as usize {
         return Err(AllocError);
     }
-    let answer = resolve_all::<T, Silent, MemDesk, G>(rt, alloc, &mut desks, workers, root, gate);
+    let shelf = Shelf::new(alloc)?;
+    let answer = resolve_all::<T, Silent, MemDesk, G>(
+        rt, alloc, &mut desks, workers, &shelf, root, gate,
+    );
     let end = match &answer {
         Ok(answered) => word(&answered.ended),
         Err(SessionFault::TooMany) => "too many",

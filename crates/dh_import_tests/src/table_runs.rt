@@ -6,7 +6,7 @@ ghost use Rattle.dh_syntax.specs.declared.locations.Loc.TheVariants as locs;
 ghost use Rattle.dh_syntax.specs.declared.locations.Mode.TheVariants as modes;
 ghost use Rattle.dh_syntax.specs.Expressions.Bridge.{term};
 ghost use Rattle.dh_syntax.specs.Expressions.Tree.{Node, end};
-ghost use Rattle.dh_table.specs.Brought.{BringsText, BringsOutcome};
+ghost use Rattle.dh_record.specs.Brought.{BringsText, BringsOutcome};
 
 use crate::tables::{claimed, here, import, imports, is_kept, make_room, opened, task};
 use dh_imports::{Blame, Outcome, Why};

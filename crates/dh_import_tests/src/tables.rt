@@ -6,7 +6,7 @@ ghost use Rattle.dh_syntax.specs.declared.expressions.Op.TheVariants as ops;
 ghost use Rattle.dh_syntax.specs.declared.locations.Loc.TheVariants as locs;
 ghost use Rattle.dh_syntax.specs.Expressions.Bridge.{term};
 ghost use Rattle.dh_syntax.specs.Expressions.Tree.{Node, end};
-ghost use Rattle.dh_table.specs.Brought.{BringsText, BringsOutcome};
+ghost use Rattle.dh_record.specs.Brought.{BringsText, BringsOutcome};
 
 use dh_imports::{Origin, Outcome};
 use dh_ports::{Found, Got, Silent};

@@ -2,13 +2,14 @@
 
 ghost use Rattle.std.specs.Prelude.{IfOk};
 ghost use Rattle.dh_syntax.specs.Expressions.Bridge.{term};
-ghost use Rattle.dh_table.specs.Values.{IsCode, IsFit, IsValue};
+ghost use Rattle.dh_record.specs.Values.{IsCode, IsFit, IsValue};
 
 use dh_imports::{Blame, Origin, Outcome, Why};
 use dh_parse::parse;
 use dh_ports::{
     Cache, CacheEntry, Content, Desk, DeskFails, Found, Got, MemDesk, Silent, are_short,
 };
+use dh_shelf::{Shelf, Visit};
 use dh_syntax::{
     Bytes, Digest, Expr, Key, Loc, Many, Mode, NormFault, Op, ParseFault, Piece, TypeFault, Url,
 };
@@ -338,7 +339,9 @@ fn a_text_is_fetched_and_parsed(rt: HostRuntime) -> Result<(), Fail> {
 
 fn looked(alloc: Global, digest: Digest, entry: &[u8]) -> Result<&'static str, AllocError> {
     let mut desk = desk(alloc, entry)?;
-    let news = look_up(alloc, &mut desk, digest)?;
+    let shelf: Shelf<Silent> = Shelf::new(alloc)?;
+    let mut visit = Visit::new(alloc, &shelf)?;
+    let news = look_up(alloc, &mut desk, &mut visit, digest)?;
     Ok(word(&news))
 }
 

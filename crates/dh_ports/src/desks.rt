@@ -49,8 +49,8 @@ pub trait Desk<W: World> {
     /// What was kept so far, where it is known.
     ghost filed: { Self → Option (List (Digest × List ℕ)) } = { λ _. None };
 
-    /// What is found at a location, of which at most the first 1,048,577 bytes are read. Each call counts as one that
-    /// asked, whatever it answers.
+    /// What is found at a location; of a text at most the first 1,048,577 bytes. Each call counts as one that asked, whatever it
+    /// answers.
     fn fetch(&mut self, alloc: Global, loc: &Loc) -> Result<Got, DeskError>
         ensures told { IfOk result (λ got. Tells (W.told loc.now) got) }
         ensures short { IfOk result IsShort }

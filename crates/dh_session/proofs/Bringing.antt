@@ -4,10 +4,10 @@ use Rattle.std.specs.Prelude.{ℕ, List, Option, Result, Ok, Err, IfOk}
 use Rattle.dh_syntax.specs.declared.locations.Digest.{Digest}
 use Rattle.dh_syntax.specs.declared.locations.Loc.{Loc}
 use Rattle.dh_ports.specs.declared.worlds.Got.{Got}
-use Rattle.dh_table.specs.Brought.{BringsText, BringsLook}
-use Rattle.dh_table.specs.declared.news.News.{News}
-use Rattle.dh_table.specs.declared.news.News.TheVariants as news
-use Rattle.dh_table.specs.Ends.{DoneParts}
+use Rattle.dh_record.specs.Brought.{BringsText, BringsLook}
+use Rattle.dh_record.specs.declared.news.News.{News}
+use Rattle.dh_record.specs.declared.news.News.TheVariants as news
+use Rattle.dh_record.specs.Ends.{DoneParts}
 use Rattle.dh_shared.specs.Turns.{Brings}
 use Rattle.dh_work.specs.Brings.{TellsFailure}
 

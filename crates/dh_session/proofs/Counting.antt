@@ -1,13 +1,14 @@
 -- What one task adds to the counts of a worker.
 use Rattle.std.proofs.Common.{◌≡◌, ℕ, ◌+◌, ◌-◌, ◌^◌, ◌<◌, ◌≤◌, ◌⊎◌, inl, inr, Bool, true, false, refl, ap, arith}
-use Rattle.std.specs.Prelude.{if◌then◌else◌}
+use Rattle.std.proofs.lemmas.Bool.{false≢true}
+use Rattle.std.specs.Prelude.{if◌then◌else◌, List, Option}
+use Rattle.dh_syntax.specs.declared.locations.Digest.{Digest}
 use Rattle.dh_ports.specs.Counts.{Rose}
-use Rattle.dh_table.specs.Calls.{brings_failure}
-use Rattle.dh_table.specs.States.{news_of}
-use Rattle.dh_table.specs.declared.news.News.{News}
+use Rattle.dh_record.specs.Brought.{brings_failure, news_of}
+use Rattle.dh_record.specs.declared.news.News.{News}
 use Rattle.dh_shared.specs.Held.{Held}
 use Rattle.dh_work.specs.Brings.{TellsFailure}
-use Rattle.dh_session.specs.Inside.{failures_told}
+use Rattle.dh_session.specs.Inside.{failures_told, Goes}
 use Rattle.dh_session.specs.Works.{AtLast, Fails}
 
 -- a failure that is told is a fault
@@ -36,3 +37,15 @@ fails_after a b c h i j (p, inr le) (q, inr le') = (omega arith, inr (omega arit
 -- a claim that changes nothing does not find the run over
 pub same_overs : (h i : Held) → i ≡ h → i.overs ≡ h.overs + 0
 same_overs h i same = omega (arith, ap (λ (k : Held). k.overs) same)
+
+-- a worker that did not begin
+pub rests : (asked faults : ℕ) (filed : Option (List (Digest × List ℕ))) (h : Held) → Goes false asked asked faults faults filed filed h h
+rests asked faults filed h = record {
+  over = λ e. absurd (false≢true e);
+  early = λ e. (refl, omega arith);
+  frees = λ e. absurd (false≢true e);
+  delivers = λ e. absurd (false≢true e);
+  asks = λ e. absurd (false≢true e);
+  fails = (omega arith, inr (omega arith));
+  files = refl;
+}

@@ -20,24 +20,24 @@ use Rattle.dh_imports.specs.contracts.outcomes.Outcome as outcome
 use Rattle.dh_demand.proofs.scans.Edge.TheSendSync as edge
 use Rattle.dh_demand.specs.contracts.scans.Scan as scan
 use Rattle.dh_ports.specs.declared.worlds.World as world
-use Rattle.dh_table.proofs.news.Noted.TheSendSync as noted
+use Rattle.dh_record.proofs.news.Noted.TheSendSync as noted
 use Rattle.dh_table.proofs.scratch.Scratch.TheSendSync as scratch
-use Rattle.dh_table.proofs.sorting.Order.TheSendSync as order
+use Rattle.dh_record.proofs.rows.index.Order.TheSendSync as order
 use Rattle.dh_table.proofs.steps.Flight.TheSendSync as flight
 use Rattle.dh_table.proofs.steps.Job.TheSendSync as job
 use Rattle.dh_table.proofs.steps.Step.TheSendSync as step
-use Rattle.dh_table.specs.contracts.entrants.Entrants as entrants
-use Rattle.dh_table.specs.contracts.entries.Entry as entry
-use Rattle.dh_table.specs.contracts.entries.Seen as look_seen
-use Rattle.dh_table.specs.contracts.items.Body as body
-use Rattle.dh_table.specs.contracts.items.Done as done
-use Rattle.dh_table.specs.contracts.items.Item as item
-use Rattle.dh_table.specs.contracts.news.News as news
-use Rattle.dh_table.specs.contracts.news.Parsed as parsed
+use Rattle.dh_record.specs.contracts.rows.entrants.Entrants as entrants
+use Rattle.dh_record.specs.contracts.entries.Entry as entry
+use Rattle.dh_record.specs.contracts.entries.Seen as look_seen
+use Rattle.dh_record.specs.contracts.items.Body as body
+use Rattle.dh_record.specs.contracts.items.Done as done
+use Rattle.dh_record.specs.contracts.items.Item as item
+use Rattle.dh_record.specs.contracts.news.News as news
+use Rattle.dh_record.specs.contracts.news.Parsed as parsed
 use Rattle.dh_table.specs.contracts.tables.Table as table
-use Rattle.dh_table.specs.contracts.texts.Entrant as entrant
-use Rattle.dh_table.specs.contracts.texts.Look as look
-use Rattle.dh_table.specs.contracts.texts.Text as text
+use Rattle.dh_record.specs.contracts.rows.recorded.Entrant as entrant
+use Rattle.dh_record.specs.contracts.rows.recorded.Look as look
+use Rattle.dh_record.specs.contracts.rows.recorded.Text as text
 
 ruleset plain = (sendable, crosses, maps.crosses, knot.crosses, op.the_field_send, many.the_send, label.the_send, bytes.the_send, digest.the_send, key.the_send, loc.the_send)
 

@@ -1,5 +1,5 @@
 -- From each place to the whole run.
-use Rattle.std.proofs.Common.{◌≡◌, ℕ, zero, suc, ◌+◌, ◌<◌, ◌≤◌, ◌⊎◌, inl, inr, Bool, true, List, [], ◌∷◌, ◌++◌, map, length, drop, get_or, refl, sym, ap, ◌∙◌, subst, arith, rules}
+use Rattle.std.proofs.Common.{◌≡◌, ℕ, zero, suc, ◌+◌, ◌<◌, ◌≤◌, ◌⊎◌, inl, inr, Bool, true, List, [], ◌∷◌, ◌++◌, map, length, drop, get_or, set, refl, sym, ap, ◌∙◌, subst, arith, rules}
 use Rattle.std.specs.Prelude.{Option, sum_by, count_by, Any, All}
 use Rattle.std.proofs.Math.Seq.{drop-append_seam}
 use Rattle.std.proofs.lemmas.Grind.{common_steps}
@@ -144,3 +144,33 @@ ends ask fault filed desk seat shares done xs ys left before after seats table w
       asks = asks_all ask desk held xs ys left before after table (sym was) is (sum_none held (λ (h : Held). h.fetches) xs refl new) (closed.fetches ∙ total (λ (h : Held). h.fetches)) s.asks;
       fails = fails_all fault desk held xs ys left before after table (sym was) is (sum_none held (λ (h : Held). h.failed) xs refl new) (closed.failed ∙ total (λ (h : Held). h.failed)) s.fails;
     }
+
+-- ---- one worker
+
+-- what holds of the one element of a list
+one_all : {X : Type 0} (Q : X → Type 0) (x : X) → Q x → All Q (x ∷ [])
+one_all Q x q zero d lt = q
+one_all Q x q (suc i) d lt = absurd (omega arith)
+
+one_each : {X : Type 0} (Q : X → X → Type 0) (x y : X) → Q x y → (i : ℕ) (d : X) → i < length (x ∷ []) → Q (get_or (x ∷ []) i d) (get_or (y ∷ []) i d)
+one_each Q x y q zero d lt = q
+one_each Q x y q (suc i) d lt = absurd (omega arith)
+
+-- a list of one element, whose element gives way to another
+set_one : {X : Type 0} (xs : List X) (y : X) → length xs ≡ 1 → set xs 0 y ≡ y ∷ []
+set_one [] y len = absurd (omega arith)
+set_one (x ∷ []) y len = refl
+set_one (x ∷ z ∷ xs) y len = absurd (omega arith)
+
+-- so of a list of which this is known
+pub set_only : {X : Type 0} (Q : X → Type 0) (xs : List X) → All Q xs → (y : X) → length xs ≡ 1 → set xs 0 y ≡ y ∷ []
+set_only Q xs all y len = set_one xs y len
+
+-- the one worker ended well, so the root is decided and the counts of its desk are those of the history
+pub ends_one : {D S : Type 0} (ask fault : D → ℕ) (filed : D → Option (List (Digest × List ℕ))) (shares : S → Held) (d e : D) (s t : S) (seats : List S) (table : Shown)
+    → Closes table (sum_held (map shares seats)) → seats ≡ t ∷ [] → shares s ≡ none_held 1 → Goes true (ask d) (ask e) (fault d) (fault e) (filed d) (filed e) (shares s) (shares t)
+    → Ends ask fault (d ∷ []) (e ∷ []) table
+ends_one {D} {S} ask fault filed shares d e s t seats table closed is new went =
+    ends {P = D × S} ask fault filed (λ p. p.0) (λ p. p.1) shares (λ p. true) ((d, s) ∷ []) ((e, t) ∷ []) [] (d ∷ []) (e ∷ []) seats table refl refl is refl (omega arith)
+    (one_all (λ (p : D × S). shares (p.1) ≡ none_held 1) (d, s) new) (one_all (λ (p : D × S). true ≡ true) (e, t) refl)
+    (one_each (λ (p q : D × S). Goes true (ask (p.0)) (ask (q.0)) (fault (p.0)) (fault (q.0)) (filed (p.0)) (filed (q.0)) (shares (p.1)) (shares (q.1))) (d, s) (e, t) went) closed

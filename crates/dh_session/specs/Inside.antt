@@ -2,11 +2,10 @@
 use Rattle.std.specs.Prelude.{◌≡◌, ◌⊎◌, ℕ, ◌+◌, ◌<◌, Bool, true, false, List, Option, if◌then◌else◌}
 use Rattle.dh_syntax.specs.declared.locations.Digest.{Digest}
 use Rattle.dh_ports.specs.Counts.{one_more}
-use Rattle.dh_table.specs.Calls.{brings_failure}
-use Rattle.dh_table.specs.States.{news_of}
-use Rattle.dh_table.specs.declared.items.Item.{Item}
-use Rattle.dh_table.specs.declared.news.News.{News}
-use Rattle.dh_table.specs.declared.news.News.TheVariants as news
+use Rattle.dh_record.specs.Brought.{brings_failure, news_of}
+use Rattle.dh_record.specs.declared.items.Item.{Item}
+use Rattle.dh_record.specs.declared.news.News.{News}
+use Rattle.dh_record.specs.declared.news.News.TheVariants as news
 use Rattle.dh_table.specs.declared.opening.OpenFault.{OpenFault}
 use Rattle.dh_table.specs.declared.opening.OpenFault.TheVariants as opens
 use Rattle.dh_table.specs.declared.works.Work.{Work}

@@ -3,7 +3,8 @@
 ghost use Rattle.std.specs.Prelude.{◌≡◌, map, IsSome, IfOk, IfErr, IfSome};
 ghost use Rattle.dh_imports.specs.Replay.{root_end};
 ghost use Rattle.dh_imports.specs.RootEnds.{EndsBy};
-ghost use Rattle.dh_table.specs.Kept.{IsKeeping, pair_of};
+ghost use Rattle.dh_table.specs.Kept.{IsKeeping};
+ghost use Rattle.dh_record.specs.Kept.{pair_of};
 ghost use Rattle.dh_table.specs.Roots.{IsEnd, IsFitEnd};
 ghost use Rattle.dh_table.specs.States.{state_of};
 

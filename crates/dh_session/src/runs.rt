@@ -6,7 +6,8 @@ ghost use Rattle.dh_imports.specs.Machine.{opening};
 ghost use Rattle.dh_imports.specs.Replay.{has_too_many, root_end};
 ghost use Rattle.dh_imports.specs.RootEnds.{EndsBy};
 ghost use Rattle.dh_table.specs.Calls.{failures};
-ghost use Rattle.dh_table.specs.Kept.{IsKeeping, pair_of};
+ghost use Rattle.dh_table.specs.Kept.{IsKeeping};
+ghost use Rattle.dh_record.specs.Kept.{pair_of};
 ghost use Rattle.dh_table.specs.Roots.{IsEnd, IsFitEnd};
 ghost use Rattle.dh_table.specs.States.{state_of};
 ghost use Rattle.dh_session.specs.Ended.{Ends, NoneFell};
@@ -16,7 +17,8 @@ use crate::answers::{Answered, SessionFault, answer_of};
 use crate::places::{Place, all_done, seat_desks, stand_again};
 use crate::workers::worker;
 use dh_ports::{Desk, Gate, World};
-use dh_shared::{Blanks, Counted, Rooted, SharedTable};
+use dh_shared::{Blanks, Counted, Rooted, Seat, SharedTable};
+use dh_shelf::{Shelf, Visit};
 use dh_syntax::Expr;
 use dh_table::Table;
 use std::alloc::{AllocError, Global};
@@ -25,17 +27,46 @@ use std::sync::Wait;
 use std::thread;
 use std::thread::Threads;
 
-/// The worker of one place.
+/// A worker at a desk, and whether it ended well.
+pub(crate) fn ends_well<T: Wait, W: World, D: Desk<W>, G: Gate, Q: Rooted, N: Counted>(
+    rt: &T,
+    alloc: Global,
+    shared: &SharedTable<W, Q, N>,
+    seat: &mut Seat<N>,
+    desk: &mut D,
+    visit: &mut Visit<'_, W>,
+    gate: &G,
+) -> bool
+    ensures { Goes result (D.asked desk.old) (D.asked desk.new) (D.faults desk.old) (D.faults desk.new) (D.filed desk.old) (D.filed desk.new) seat.old.shares seat.new.shares }
+{
+    worker(rt, alloc, shared, seat, desk, visit, gate).is_ok()
+}
+
+/// The worker of one place, which looks on the shelf in a visit of its own.
+#[tactic(auto, using(crate::proofs::Counting::rests))]
 fn work_at<T: Wait, W: World, D: Desk<W>, G: Gate, Q: Rooted, N: Counted>(
     rt: &T,
     alloc: Global,
     shared: &SharedTable<W, Q, N>,
+    shelf: &Shelf<W>,
     place: &mut Place<D, N>,
     gate: &G,
 )
     ensures { Goes place.new.done (D.asked place.old.desk) (D.asked place.new.desk) (D.faults place.old.desk) (D.faults place.new.desk) (D.filed place.old.desk) (D.filed place.new.desk) place.old.seat.shares place.new.seat.shares }
 {
-    let done = worker(rt, alloc, shared, &mut place.seat, &mut place.desk, gate).is_ok();
+    let Ok(mut visit) = Visit::new(alloc, shelf) else {
+        place.done = false;
+        return;
+    };
+    let done = ends_well(
+        rt,
+        alloc,
+        shared,
+        &mut place.seat,
+        &mut place.desk,
+        &mut visit,
+        gate,
+    );
     place.done = done;
 }
 
@@ -52,6 +83,7 @@ fn work_all<
     rt: &T,
     alloc: Global,
     shared: &SharedTable<W, Q, N>,
+    shelf: &Shelf<W>,
     places: &mut [Place<D, N>],
     workers: u32,
     gate: &G,
@@ -63,7 +95,7 @@ fn work_all<
         rt,
         places,
         workers as usize,
-        &|_, place| work_at(rt, alloc, shared, place, gate),
+        &|_, place| work_at(rt, alloc, shared, shelf, place, gate),
     );
 }
 
@@ -78,6 +110,7 @@ fn work_places<
     rt: &T,
     alloc: Global,
     shared: &SharedTable<W, Q, N>,
+    shelf: &Shelf<W>,
     places: &mut Vec<Place<D, N>>,
     workers: u32,
     gate: &G,
@@ -87,7 +120,15 @@ fn work_places<
     ensures len { vec_len places.new ≡ vec_len places.old }
     ensures each { (i : ℕ) (d : _) → i < length places.old.items → Goes (slice_index_or places.new.items i d).done (D.asked (slice_index_or places.old.items i d).desk) (D.asked (slice_index_or places.new.items i d).desk) (D.faults (slice_index_or places.old.items i d).desk) (D.faults (slice_index_or places.new.items i d).desk) (D.filed (slice_index_or places.old.items i d).desk) (D.filed (slice_index_or places.new.items i d).desk) (slice_index_or places.old.items i d).seat.shares (slice_index_or places.new.items i d).seat.shares }
 {
-    work_all(rt, alloc, shared, places.as_mut_slice(), workers, gate);
+    work_all(
+        rt,
+        alloc,
+        shared,
+        shelf,
+        places.as_mut_slice(),
+        workers,
+        gate,
+    );
 }
 
 /// Works on a table of this root with one worker on each of the first desks, and closes it.
@@ -104,6 +145,7 @@ fn run<
     blanks: Blanks,
     desks: &mut Vec<D>,
     workers: u32,
+    shelf: &Shelf<W>,
     table: Table<W>,
     gate: &G,
 ) -> Result<Table<W>, AllocError>
@@ -123,7 +165,7 @@ fn run<
     let mut seats = seats;
     let mut places = Vec::with_capacity(alloc, workers as usize)?;
     seat_desks(desks, &mut seats, &mut places);
-    work_places(rt, alloc, &shared, &mut places, workers, gate);
+    work_places(rt, alloc, &shared, shelf, &mut places, workers, gate);
     let done = all_done(&places);
     stand_again(desks, &mut seats, places);
     let table = shared.close(seats);
@@ -132,7 +174,8 @@ fn run<
 
 /// Resolves the imports of a root ("Import resolution") with one worker on each of the first desks, and tells how the root ends, what
 /// the run keeps in the cache, and the table. Whatever it answers, all desks stand in `desks` again in their order, and those that
-/// have no worker are as they were. Before each fetch a worker passes the gate.
+/// have no worker are as they were. Before each fetch a worker passes the gate, and before it asks its desk for an entry of the cache it
+/// looks on the shelf, where it puts what its desk has.
 ///
 /// `TooMany` comes exactly where the root has more than 4,096 keys, and then no desk was touched; keys that become too many later are
 /// the fault of the root.
@@ -146,6 +189,7 @@ pub fn resolve_all<
     alloc: Global,
     desks: &mut Vec<D>,
     workers: u32,
+    shelf: &Shelf<W>,
     root: Expr,
     gate: &G,
 ) -> Result<Answered<W>, SessionFault>
@@ -167,6 +211,8 @@ pub fn resolve_all<
 {
     let table = Table::open(alloc, root)?;
     let blanks = Blanks::new(u64::from(workers));
-    let closed = run::<R, W, D, G, Brand, Brand>(rt, alloc, blanks, desks, workers, table, gate)?;
+    let closed = run::<R, W, D, G, Brand, Brand>(
+        rt, alloc, blanks, desks, workers, shelf, table, gate,
+    )?;
     answer_of(alloc, closed)
 }

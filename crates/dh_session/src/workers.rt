@@ -10,6 +10,7 @@ ghost use Rattle.dh_session.specs.Works.{Asks, Delivers, Fails, FreesLate, Gives
 
 use dh_ports::{Desk, Gate, World};
 use dh_shared::{Counted, Rooted, Seat, SharedTable, Turn};
+use dh_shelf::Visit;
 use dh_syntax::Loc;
 use dh_table::{News, Taken, Ticket, Work};
 use dh_work::{fetch_text, look_up, work_item};
@@ -50,6 +51,7 @@ fn fetch_once<W: World, D: Desk<W>, G: Gate>(
 fn bring<W: World, D: Desk<W>, G: Gate>(
     alloc: Global,
     desk: &mut D,
+    visit: &mut Visit<'_, W>,
     gate: &G,
     work: Work,
 ) -> Result<News, AllocError>
@@ -63,7 +65,7 @@ fn bring<W: World, D: Desk<W>, G: Gate>(
 {
     match work {
         Work::Fetch(loc) => fetch_once(alloc, desk, gate, loc),
-        Work::Look(digest) => look_up(alloc, desk, digest),
+        Work::Look(digest) => look_up(alloc, desk, visit, digest),
         Work::Finish(item) => Ok(News::Finished(work_item(alloc, item)?)),
     }
 }
@@ -108,6 +110,7 @@ fn carry_out<T: Wait, W: World, D: Desk<W>, G: Gate, Q: Rooted, N: Counted>(
     shared: &SharedTable<W, Q, N>,
     seat: &mut Seat<N>,
     desk: &mut D,
+    visit: &mut Visit<'_, W>,
     gate: &G,
     ticket: Ticket,
     work: Work,
@@ -125,7 +128,7 @@ fn carry_out<T: Wait, W: World, D: Desk<W>, G: Gate, Q: Rooted, N: Counted>(
     ensures overs { seat.new.shares.overs ≡ seat.old.shares.overs }
     ensures worker { seat.new.worker ≡ seat.old.worker }
 {
-    match bring(alloc, desk, gate, work) {
+    match bring(alloc, desk, visit, gate, work) {
         Ok(news) => hand_in(rt, shared, seat, ticket, news),
         Err(error) => {
             shared.release(rt, seat, ticket);
@@ -141,6 +144,7 @@ fn take_turn<T: Wait, W: World, D: Desk<W>, G: Gate, Q: Rooted, N: Counted>(
     shared: &SharedTable<W, Q, N>,
     seat: &mut Seat<N>,
     desk: &mut D,
+    visit: &mut Visit<'_, W>,
     gate: &G,
 ) -> Result<Next, AllocError>
     ensures overs { IfOk result (λ next. seat.new.shares.overs ≡ seat.old.shares.overs + overs_by next) }
@@ -158,21 +162,22 @@ fn take_turn<T: Wait, W: World, D: Desk<W>, G: Gate, Q: Rooted, N: Counted>(
         Turn::Memory => Err(AllocError),
         Turn::Idle => Ok(Next::Wait),
         Turn::Work(ticket, work) => {
-            carry_out(rt, alloc, shared, seat, desk, gate, ticket, work)?;
+            carry_out(rt, alloc, shared, seat, desk, visit, gate, ticket, work)?;
             Ok(Next::Claim)
         }
     }
 }
 
-/// Claims tasks, passes the gate before each fetch, works on each task and delivers what it comes to, until a claim finds the root
-/// decided. Where memory is wanting it gives its ticket back and ends; after news that came late it gives its ticket back and goes
-/// on.
+/// Claims tasks, passes the gate before each fetch, looks on the shelf before it asks its desk for an entry, works on each task and
+/// delivers what it comes to, until a claim finds the root decided. Where memory is wanting it gives its ticket back and ends; after
+/// news that came late it gives its ticket back and goes on.
 pub fn worker<T: Wait, W: World, D: Desk<W>, G: Gate, Q: Rooted, N: Counted>(
     rt: &T,
     alloc: Global,
     shared: &SharedTable<W, Q, N>,
     seat: &mut Seat<N>,
     desk: &mut D,
+    visit: &mut Visit<'_, W>,
     gate: &G,
 ) -> Result<(), AllocError>
     ensures over { OnOk result (seat.new.shares.overs ≡ seat.old.shares.overs + 1) }
@@ -186,7 +191,7 @@ pub fn worker<T: Wait, W: World, D: Desk<W>, G: Gate, Q: Rooted, N: Counted>(
     ensures worker { seat.new.worker ≡ seat.old.worker }
 {
     for _ in rt.forever() {
-        match take_turn(rt, alloc, shared, seat, desk, gate)? {
+        match take_turn(rt, alloc, shared, seat, desk, visit, gate)? {
             Next::Claim => {}
             Next::Wait => shared.wait(rt, seat),
             Next::End => return Ok(()),

@@ -13,10 +13,10 @@ use Rattle.dh_table.specs.declared.claims.Claimed.{Claimed}
 use Rattle.dh_table.specs.declared.claims.Claimed.TheVariants as claimed
 use Rattle.dh_table.specs.declared.deliveries.Taken.{Taken}
 use Rattle.dh_table.specs.declared.deliveries.Taken.TheVariants as taken
-use Rattle.dh_table.specs.declared.news.News.{News}
-use Rattle.dh_table.specs.declared.news.News.TheVariants as news
-use Rattle.dh_table.specs.declared.steps.Kind.{Kind}
-use Rattle.dh_table.specs.declared.steps.Kind.TheVariants as kinds
+use Rattle.dh_record.specs.declared.news.News.{News}
+use Rattle.dh_record.specs.declared.news.News.TheVariants as news
+use Rattle.dh_record.specs.declared.kinds.Kind.{Kind}
+use Rattle.dh_record.specs.declared.kinds.Kind.TheVariants as kinds
 use Rattle.dh_table.specs.declared.steps.Step.{Step}
 use Rattle.dh_table.specs.declared.tables.Ticket.{Ticket}
 use Rattle.dh_table.specs.declared.works.Work.{Work}

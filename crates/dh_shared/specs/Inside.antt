@@ -6,7 +6,7 @@ use Rattle.dh_table.specs.declared.claims.Claimed.{Claimed}
 use Rattle.dh_table.specs.declared.claims.Claimed.TheVariants as claimed
 use Rattle.dh_table.specs.declared.deliveries.Taken.{Taken}
 use Rattle.dh_table.specs.declared.deliveries.Taken.TheVariants as taken
-use Rattle.dh_table.specs.declared.news.News.{News}
+use Rattle.dh_record.specs.declared.news.News.{News}
 use Rattle.dh_table.specs.declared.tables.Ticket.{Ticket}
 use Rattle.dh_table.specs.Calls.{StaysDecided, failures, new_failures}
 use Rattle.dh_table.specs.Shown.{Shown}

@@ -5,13 +5,13 @@ use Rattle.dh_syntax.specs.declared.locations.Loc.{Loc}
 use Rattle.dh_ports.specs.declared.worlds.Got.{Got}
 use Rattle.dh_table.specs.declared.deliveries.Taken.{Taken}
 use Rattle.dh_table.specs.declared.deliveries.Taken.TheVariants as taken
-use Rattle.dh_table.specs.declared.news.News.{News}
-use Rattle.dh_table.specs.declared.news.News.TheVariants as news
-use Rattle.dh_table.specs.declared.steps.Kind.TheVariants as kinds
+use Rattle.dh_record.specs.declared.news.News.{News}
+use Rattle.dh_record.specs.declared.news.News.TheVariants as news
+use Rattle.dh_record.specs.declared.kinds.Kind.TheVariants as kinds
 use Rattle.dh_table.specs.declared.tables.Ticket.{Ticket}
 use Rattle.dh_table.specs.declared.works.Work.{Work}
 use Rattle.dh_table.specs.declared.works.Work.TheVariants as works
-use Rattle.dh_table.specs.Brought.{BringsText, BringsLook, BringsOutcome}
+use Rattle.dh_record.specs.Brought.{BringsText, BringsLook, BringsOutcome}
 use Rattle.dh_table.specs.Calls.{new_failures}
 use Rattle.dh_table.specs.Works.{IsFitWork}
 use Rattle.dh_shared.specs.declared.turns.Turn.{Turn}

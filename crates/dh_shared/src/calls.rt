@@ -1,8 +1,8 @@
 //! The calls of a table under the lock, with what each adds to the counts.
 
 ghost use Rattle.std.specs.Prelude.{◌≡◌, ◌+◌, ◌≤◌, cond, length, IfOk};
-ghost use Rattle.dh_table.specs.Calls.{brings_failure, has_failed};
-ghost use Rattle.dh_table.specs.States.{news_of, noted_by, parsed_by};
+ghost use Rattle.dh_record.specs.Brought.{brings_failure, has_failed, news_of};
+ghost use Rattle.dh_record.specs.Rows.{noted_by, parsed_by};
 ghost use Rattle.dh_table.specs.Works.{IsFitWork};
 ghost use Rattle.dh_shared.specs.Counting.{is_fetch};
 ghost use Rattle.dh_shared.specs.Inside.{Draws, Flies, HandsIn, PutsBack};

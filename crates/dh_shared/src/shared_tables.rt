@@ -65,14 +65,14 @@ impl<W: World, Q: Rooted, N: Counted> SharedTable<W, Q, N> {
         self.locked.lock(rt).claim(seat)
     }
 
-    /// Waits until a claim would not be idle.
+    /// Waits until the table is not idle. No clause says so, since none can speak of the table under the lock.
     pub fn wait<T: Wait>(&self, rt: &T, _seat: &Seat<N>) {
         let guard = self.locked.lock(rt);
         self.changed
             .wait_while(rt, guard, |locked| locked.is_idle());
     }
 
-    /// One delivery under the lock, which wakes who waits.
+    /// One delivery under the lock. It wakes those who wait, of which no clause speaks.
     pub fn deliver<T: Wait>(&self, rt: &T, seat: &mut Seat<N>, ticket: Ticket, news: News) -> Taken
         requires { Brings W.told W.shelved news }
         ensures hands { Hands seat.old.shares seat.new.shares news result }

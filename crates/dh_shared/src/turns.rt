@@ -7,7 +7,7 @@ use dh_table::{Ticket, Work};
 pub enum Turn {
     /// The task of a ticket, and what it needs.
     Work(Ticket, Work),
-    /// No task is open, and one is in flight.
+    /// Nothing is to be done now: wait, and claim again. (No clause says what the table was then.)
     Idle,
     /// The root is decided.
     Over,

@@ -20,13 +20,15 @@ use Rattle.dh_demand.specs.declared.scans.Scan.{Scan}
 use Rattle.dh_demand.specs.Results.{Row, ask_of}
 use Rattle.dh_demand.specs.Scans.{Begins, AreInside, Fits}
 use Rattle.dh_demand.proofs.Numbers.{within}
-use Rattle.dh_table.specs.declared.texts.Entrant.{Entrant}
-use Rattle.dh_table.specs.Inside.Entering.{AreDistinct, key_of_entrant, keys_in, entered_all, IsListed, IsNew, AreMore, AreEdges}
-use Rattle.dh_table.specs.Inside.Reading.{IsRead}
+use Rattle.dh_record.specs.declared.rows.recorded.Entrant.{Entrant}
+use Rattle.dh_record.specs.Entering.{AreDistinct, key_of_entrant, keys_in, entered_all, IsListed, IsNew, AreMore, AreEdges}
+use Rattle.dh_record.specs.Reading.{IsRead}
 use Rattle.dh_table.specs.Shown.{Shown}
-use Rattle.dh_table.specs.States.{rows_of, state_of, text_of, look_of, limit_of, outcome_of_number, flight_of, task_of, step_by, news_of, IsReplayed}
+use Rattle.dh_record.specs.Rows.{rows_of, text_of, look_of, limit_of, outcome_of_number}
+use Rattle.dh_table.specs.States.{state_of, flight_of, task_of, step_by, IsReplayed}
+use Rattle.dh_record.specs.Brought.{news_of}
 use Rattle.dh_table.specs.Tables.{IsKnown, IsOwned, keys_named}
-use Rattle.dh_table.proofs.Distinct.{in_entered_all, distinct_entered, as_many}
+use Rattle.dh_record.proofs.Distinct.{in_entered_all, distinct_entered, as_many}
 
 edges_inside : (parent : Option Loc) (rows : List Row) (ks : List Key) (es : List Edge) → AreEdges parent rows ks es → AreInside rows es
 edges_inside parent rows [] [] h = All-nil (λ (e : Edge). e.key < length rows)

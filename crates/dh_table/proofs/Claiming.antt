@@ -7,15 +7,16 @@ use Rattle.dh_imports.specs.Machine.{Task, State, IsOpen, effect}
 use Rattle.dh_imports.specs.Replay.{root_end}
 use Rattle.dh_table.specs.declared.claims.Claimed.TheVariants as claimed
 use Rattle.dh_table.specs.declared.steps.Job.{Job}
-use Rattle.dh_table.specs.declared.steps.Kind.{Kind}
+use Rattle.dh_record.specs.declared.kinds.Kind.{Kind}
 use Rattle.dh_table.specs.declared.steps.Step.{Step}
 use Rattle.dh_table.specs.declared.steps.Step.TheVariants as steps
 use Rattle.dh_table.specs.declared.tables.Ticket.{Ticket}
 use Rattle.dh_table.specs.Calls.{Adds, HandsOut, claim_steps}
 use Rattle.dh_table.specs.Inside.Searching.{IsJob}
 use Rattle.dh_table.specs.Shown.{Shown}
-use Rattle.dh_table.specs.States.{task_of, key_named, kind_by, state_of}
-use Rattle.dh_table.proofs.Logs.{length-reverse-map}
+use Rattle.dh_table.specs.States.{task_of, kind_by, state_of}
+use Rattle.dh_record.specs.Rows.{key_named}
+use Rattle.dh_record.proofs.Latest.{length-reverse-map}
 use Rattle.dh_table.proofs.Stepping.{kind-task}
 
 pub none_of : {X : Type 0} (o : Option X) → (IsSome o → ⊥) → o ≡ None

@@ -16,13 +16,15 @@ use Rattle.dh_imports.specs.Replay.{Replays, Step}
 use Rattle.dh_imports.specs.Resolver.{Stage, Lacks, Has, Meets, Waits, ended, unless_limit}
 use Rattle.dh_demand.proofs.Visiting.{Blamed, fault, looped, blamed}
 use Rattle.dh_import_laws.proofs.Facts.{in_flight_unrecorded}
-use Rattle.dh_table.specs.declared.items.Item.{Item}
+use Rattle.dh_record.specs.declared.items.Item.{Item}
 use Rattle.dh_table.specs.declared.steps.Job.{Job}
-use Rattle.dh_table.specs.declared.steps.Kind.{Kind}
-use Rattle.dh_table.specs.declared.steps.Kind.TheVariants as kinds
-use Rattle.dh_table.specs.declared.texts.Entrant.{Entrant}
-use Rattle.dh_table.specs.Items.{comes, stage_of_item, IsLast}
-use Rattle.dh_table.specs.States.{key_named, task_by, task_of, limit_by, why_of}
+use Rattle.dh_record.specs.declared.kinds.Kind.{Kind}
+use Rattle.dh_record.specs.declared.kinds.Kind.TheVariants as kinds
+use Rattle.dh_record.specs.declared.rows.recorded.Entrant.{Entrant}
+use Rattle.dh_record.specs.Items.{comes, stage_of_item, IsLast}
+use Rattle.dh_record.specs.Rows.{key_named, task_by, why_of}
+use Rattle.dh_table.specs.States.{task_of}
+use Rattle.dh_record.specs.Brought.{limit_by}
 use Rattle.dh_table.proofs.Stepping.{all-push}
 
 -- ---- the key of a finish

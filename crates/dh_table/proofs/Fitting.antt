@@ -6,13 +6,14 @@ use Rattle.std.proofs.lemmas.List.Elements.{All-nil, All-append, All-filter, All
 use Rattle.dh_syntax.specs.declared.locations.Key.{Key}
 use Rattle.dh_imports.specs.declared.outcomes.Outcome as program
 use Rattle.dh_table.specs.declared.steps.Flight.{Flight}
-use Rattle.dh_table.specs.declared.texts.Entrant.{Entrant}
-use Rattle.dh_table.specs.Inside.Due.{IsValued}
-use Rattle.dh_table.specs.Inside.Entering.{AreDistinct, AreMore, IsNew, decided_at, keys_in}
-use Rattle.dh_table.specs.States.{IsFrozenLook, nobody}
+use Rattle.dh_record.specs.declared.rows.recorded.Entrant.{Entrant}
+use Rattle.dh_record.specs.Due.{IsValued}
+use Rattle.dh_record.specs.Entering.{AreDistinct, AreMore, IsNew, decided_at, keys_in}
+use Rattle.dh_table.specs.States.{IsFrozenLook}
+use Rattle.dh_record.specs.Rows.{nobody}
 use Rattle.dh_table.specs.Tables.{AreFit}
-use Rattle.dh_table.specs.Values.{HasValue}
-use Rattle.dh_table.proofs.Deciding.{names}
+use Rattle.dh_record.specs.Values.{HasValue}
+use Rattle.dh_record.proofs.Decided.{names}
 use Rattle.dh_table.proofs.Stepping.{all-push}
 
 pub fit_drawn : (es : List Entrant) (fs fs' : List Flight) (f : Flight) → fs' ≡ fs ++ f ∷ [] → IsFrozenLook es f.job → AreFit es fs → AreFit es fs'

@@ -25,17 +25,18 @@ use Rattle.dh_import_laws.proofs.Visits.{visits_are_resolved}
 use Rattle.dh_demand.specs.Results.{number_of, ask_of}
 use Rattle.dh_demand.proofs.Numbers.{stands}
 use Rattle.dh_demand.proofs.Visiting.{Blamed, fault, looped, blamed}
-use Rattle.dh_table.specs.Inside.Entering.{AreDistinct, keys_in}
-use Rattle.dh_table.specs.Inside.Keeping.{AreVisited, IsFreshAt, AreLeast, IsEntryAt, AreEntries}
-use Rattle.dh_table.specs.Inside.Reading.{record_by}
+use Rattle.dh_record.specs.Entering.{AreDistinct, keys_in}
+use Rattle.dh_record.specs.Keeping.{AreVisited, IsFreshAt, AreLeast, IsEntryAt, AreEntries}
+use Rattle.dh_record.specs.Reading.{record_by}
 use Rattle.dh_table.specs.Shown.{Shown}
-use Rattle.dh_table.specs.States.{IsReplayed, nobody, key_named, rows_of, record_of, state_of}
-use Rattle.dh_table.proofs.Deciding.{number_itself, outcome_stands}
-use Rattle.dh_table.proofs.KeptEntries.{good_value}
-use Rattle.dh_table.proofs.KeyRanks.{one_place}
-use Rattle.dh_table.proofs.LeastFresh.{digests, digest_named}
-use Rattle.dh_table.proofs.Reading.{number_names, plan_limits}
-use Rattle.dh_table.proofs.SortedNumbers.{among_at}
+use Rattle.dh_table.specs.States.{IsReplayed, record_of, state_of}
+use Rattle.dh_record.specs.Rows.{nobody, key_named, rows_of}
+use Rattle.dh_record.proofs.Decided.{number_itself, outcome_stands}
+use Rattle.dh_record.proofs.KeptEntries.{good_value}
+use Rattle.dh_record.proofs.KeyRanks.{one_place}
+use Rattle.dh_record.proofs.LeastFresh.{digests, digest_named}
+use Rattle.dh_record.proofs.Reading.{number_names, plan_limits}
+use Rattle.dh_record.proofs.SortedNumbers.{among_at}
 
 -- ---- values of outcomes
 

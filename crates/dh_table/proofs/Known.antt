@@ -21,13 +21,14 @@ use Rattle.dh_import_laws.proofs.Wants.{needs-asked}
 use Rattle.dh_demand.specs.Results.{Row, number_of}
 use Rattle.dh_demand.specs.Wants.{HasNumber}
 use Rattle.dh_table.specs.declared.steps.Job.{Job}
-use Rattle.dh_table.specs.declared.steps.Kind.{Kind}
-use Rattle.dh_table.specs.declared.texts.Entrant.{Entrant}
-use Rattle.dh_table.specs.declared.visits.Reach.TheVariants as reaches
+use Rattle.dh_record.specs.declared.kinds.Kind.{Kind}
+use Rattle.dh_record.specs.declared.rows.recorded.Entrant.{Entrant}
+use Rattle.dh_record.specs.declared.stage.reaches.Reach.TheVariants as reaches
 use Rattle.dh_table.specs.Inside.Piling.{number_at}
-use Rattle.dh_table.specs.Inside.Reading.{IsReach}
+use Rattle.dh_record.specs.Reading.{IsReach}
 use Rattle.dh_table.specs.Inside.Searching.{AreKnown, IsDecided, IsFound, IsPlaced, IsTaskAt, IsWaiting}
-use Rattle.dh_table.specs.States.{rows_of, key_named, task_of}
+use Rattle.dh_record.specs.Rows.{rows_of, key_named}
+use Rattle.dh_table.specs.States.{task_of}
 use Rattle.dh_table.proofs.Courses.{IsMet, course_same, walk-met}
 use Rattle.dh_table.proofs.RootEnds.{no_end}
 use Rattle.dh_table.proofs.Seeing.{task_at}

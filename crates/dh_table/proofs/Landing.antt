@@ -14,7 +14,8 @@ use Rattle.dh_import_laws.specs.ImportLaws.{IsDecided}
 use Rattle.dh_import_laws.proofs.Counts.{too_many_stay}
 use Rattle.dh_import_laws.proofs.Facts.{root_stays}
 use Rattle.dh_import_laws.proofs.Laws.{in_flight_once}
-use Rattle.dh_table.specs.Calls.{landing, Records, StaysDecided, has_failed, is_failed, failures, brings_failure}
+use Rattle.dh_table.specs.Calls.{landing, Records, StaysDecided, failures}
+use Rattle.dh_record.specs.Brought.{has_failed, is_failed, brings_failure}
 use Rattle.dh_table.specs.Shown.{Shown}
 use Rattle.dh_table.specs.States.{state_of, IsReplayed}
 use Rattle.dh_table.proofs.RootEnds.{ends_too_many}

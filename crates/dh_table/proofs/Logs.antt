@@ -1,10 +1,10 @@
--- Lists that grow at their end, seen with the latest first.
-use Rattle.std.specs.Prelude.{◌≡◌, ◌<◌, ◌≤◌, ◌+◌, ℕ, suc, ◌-◌, min, Bool, true, false, if◌then◌else◌, not, ◌==◌, List, [], ◌∷◌, ◌++◌, length, map, reverse, filter, take, Option, Some, None, is_some, refl}
+-- Flights, of which the latest come first.
+use Rattle.std.specs.Prelude.{◌≡◌, ◌<◌, ◌≤◌, ◌+◌, ℕ, suc, ◌-◌, min, Bool, true, false, if◌then◌else◌, not, ◌==◌, List, ◌∷◌, ◌++◌, length, map, reverse, filter, take, Option, Some, None, is_some, refl, []}
 use Rattle.std.specs.Option.{option_map}
 use Rattle.std.proofs.Common.{ap, sym, ◌∙◌, arith, get_or, eqb, inl, inr}
 use Rattle.std.proofs.lemmas.Bool.{eq-eqb}
 use Rattle.std.proofs.lemmas.Bool.Decides.{eqb_tells}
-use Rattle.std.proofs.lemmas.List.{reverse-append, length-reverse, length-map, map-append, take_all, take_more}
+use Rattle.std.proofs.lemmas.List.{reverse-append, map-append, take_all, take_more}
 use Rattle.std.proofs.lemmas.List.Elements.{filter-append}
 use Rattle.dh_syntax.specs.Expressions.Numbers.{eq}
 use Rattle.dh_imports.specs.Machine.{Task, without}
@@ -12,22 +12,9 @@ use Rattle.dh_imports.specs.Records.{lookup}
 use Rattle.dh_syntax.proofs.NativeTests.{eq-native}
 use Rattle.dh_table.specs.declared.steps.Flight.{Flight}
 use Rattle.dh_table.specs.declared.steps.Job.{Job}
-use Rattle.dh_table.specs.declared.texts.Entrant.{Entrant}
+use Rattle.dh_record.specs.declared.rows.recorded.Entrant.{Entrant}
 use Rattle.dh_table.specs.States.{flight_of, task_of}
-
-map-push : {A B : Type 0} (f : A → B) (xs : List A) (x : A) → map f (xs ++ x ∷ []) ≡ map f xs ++ f x ∷ []
-map-push f [] x = refl
-map-push f (y ∷ xs) x = ap (λ ys. f y ∷ ys) (map-push f xs x)
-
--- the latest first
-pub latest : {A B : Type 0} (f : A → B) (xs : List A) (x : A) → reverse (map f (xs ++ x ∷ [])) ≡ f x ∷ reverse (map f xs)
-latest f xs x = ap reverse (map-push f xs x) ∙ reverse-append (map f xs) (f x ∷ [])
-
-pub mapped : {A B : Type 0} (f : A → B) (xs ys : List A) (x : A) → ys ≡ xs ++ x ∷ [] → map f ys ≡ map f xs ++ f x ∷ []
-mapped f xs ys x p = ap (map f) p ∙ map-push f xs x
-
-pub length-reverse-map : {A B : Type 0} (f : A → B) (xs : List A) → length (reverse (map f xs)) ≡ length xs
-length-reverse-map f xs = length-reverse (map f xs) ∙ length-map xs f
+use Rattle.dh_record.proofs.Latest.{latest, length-reverse-map, reverse-cons}
 
 without-append : (n : ℕ) (xs ys : List (ℕ × Task)) → without n (xs ++ ys) ≡ without n xs ++ without n ys
 without-append n [] ys = refl
@@ -37,9 +24,6 @@ without-append n (f ∷ xs) ys = go (eq f.0 n) (without-append n xs ys)
         → (if b then without n (xs ++ ys) else f ∷ without n (xs ++ ys)) ≡ (if b then without n xs else f ∷ without n xs) ++ without n ys
     go true p = p
     go false p = ap (λ zs. f ∷ zs) p
-
-pub reverse-cons : {A B : Type 0} (f : A → B) (x : A) (xs : List A) → reverse (map f (x ∷ xs)) ≡ reverse (map f xs) ++ f x ∷ []
-reverse-cons f x xs = reverse-append (f x ∷ []) (map f xs)
 
 -- the other serials
 abbrev pub others : ℕ → Flight → Bool

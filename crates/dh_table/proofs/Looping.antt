@@ -12,16 +12,18 @@ use Rattle.dh_import_laws.proofs.Graph.{Way, Trail, ring-found, joined}
 use Rattle.dh_import_laws.proofs.Plans.{wanted-undecided}
 use Rattle.dh_import_laws.proofs.Progress.{next_wanted, one, root_after}
 use Rattle.dh_demand.specs.Results.{Row, number_of, ask_of}
-use Rattle.dh_table.specs.declared.steps.Kind.{Kind}
-use Rattle.dh_table.specs.declared.texts.Entrant.{Entrant}
-use Rattle.dh_table.specs.declared.texts.Look.{Look}
-use Rattle.dh_table.specs.declared.texts.Text.{Text}
-use Rattle.dh_table.specs.declared.visits.Reach.TheVariants as reaches
-use Rattle.dh_table.specs.Inside.Reading.{record_by, IsReach}
-use Rattle.dh_table.specs.Inside.Searching.{IsStuck, IsNextStuck, IsLoop, is_set, one_unless, unseen}
-use Rattle.dh_table.specs.States.{rows_of, key_named}
-use Rattle.dh_table.proofs.Reading.{number_names}
-use Rattle.dh_table.proofs.Seeing.{stage_stands, open_job, set_cases}
+use Rattle.dh_record.specs.declared.kinds.Kind.{Kind}
+use Rattle.dh_record.specs.declared.rows.recorded.Entrant.{Entrant}
+use Rattle.dh_record.specs.declared.rows.recorded.Look.{Look}
+use Rattle.dh_record.specs.declared.rows.recorded.Text.{Text}
+use Rattle.dh_record.specs.declared.stage.reaches.Reach.TheVariants as reaches
+use Rattle.dh_record.specs.Reading.{record_by, IsReach}
+use Rattle.dh_table.specs.Inside.Searching.{IsStuck, IsNextStuck, IsLoop}
+use Rattle.dh_record.specs.Marks.{is_set, one_unless, unseen}
+use Rattle.dh_record.specs.Rows.{rows_of, key_named}
+use Rattle.dh_record.proofs.Reading.{number_names}
+use Rattle.dh_table.proofs.Seeing.{stage_stands, open_job}
+use Rattle.dh_record.proofs.Marking.{set_cases}
 
 reach_waits : (rows : List Row) (k : Key) (x : Stage) (n : ℕ) → IsReach rows k x (reaches.Wait n) → (y : Key) × (x ≡ Waits y) × (number_of rows y ≡ Some n)
 reach_waits rows k (Lacks (TextOf l)) n r = absurd r

@@ -14,7 +14,7 @@ use Rattle.dh_imports.specs.Resolver.{resolve}
 use Rattle.dh_imports.specs.Walk.{Walked, Ready, Fails, Turns, Needs}
 use Rattle.dh_table.specs.declared.roots.Ended.{Ended}
 use Rattle.dh_table.specs.declared.roots.Ended.TheVariants as ends
-use Rattle.dh_table.specs.Inside.Due.{IsBlame}
+use Rattle.dh_record.specs.Due.{IsBlame}
 use Rattle.dh_table.specs.Kept.{IsKeeping}
 use Rattle.dh_table.specs.Roots.{IsEnd}
 

@@ -24,20 +24,21 @@ use Rattle.dh_demand.specs.Scans.{Begins, Fits, text_key}
 use Rattle.dh_demand.specs.Wants.{AreMarked, HasNumber}
 use Rattle.dh_demand.proofs.Numbers.{stands, within}
 use Rattle.dh_table.specs.declared.steps.Flight.{Flight}
-use Rattle.dh_table.specs.declared.steps.Kind.{Kind}
-use Rattle.dh_table.specs.declared.texts.Entrant.{Entrant}
-use Rattle.dh_table.specs.declared.texts.Look.{Look}
-use Rattle.dh_table.specs.declared.texts.Text.{Text}
-use Rattle.dh_table.specs.declared.visits.Reach.TheVariants as reaches
-use Rattle.dh_table.specs.Inside.Entering.{AreDistinct, keys_in}
+use Rattle.dh_record.specs.declared.kinds.Kind.{Kind}
+use Rattle.dh_record.specs.declared.rows.recorded.Entrant.{Entrant}
+use Rattle.dh_record.specs.declared.rows.recorded.Look.{Look}
+use Rattle.dh_record.specs.declared.rows.recorded.Text.{Text}
+use Rattle.dh_record.specs.declared.stage.reaches.Reach.TheVariants as reaches
+use Rattle.dh_record.specs.Entering.{AreDistinct, keys_in}
 use Rattle.dh_table.specs.Inside.Piling.{IsBare, IsPoured, number_at}
-use Rattle.dh_table.specs.Inside.Reading.{IsNumbered, IsReach, record_by}
-use Rattle.dh_table.specs.Inside.Searching.{AreEdgesPut, AreKnown, ArePut, HasEdge, IsDecided, IsJob, IsPlaced, IsSearched, IsSeen, IsWaiting, Flies, Stands, is_set, left_to_see, no_hole, turns_left}
-use Rattle.dh_table.specs.States.{rows_of, key_named, task_by}
-use Rattle.dh_table.proofs.Deciding.{number_itself}
+use Rattle.dh_record.specs.Reading.{IsNumbered, IsReach, record_by}
+use Rattle.dh_table.specs.Inside.Searching.{AreEdgesPut, AreKnown, ArePut, HasEdge, IsDecided, IsJob, IsPlaced, IsSearched, IsSeen, IsWaiting, Flies, Stands, left_to_see, no_hole, turns_left}
+use Rattle.dh_record.specs.Marks.{is_set}
+use Rattle.dh_record.specs.Rows.{rows_of, key_named, task_by}
+use Rattle.dh_record.proofs.Decided.{number_itself}
 use Rattle.dh_table.proofs.Known.{leading_task, reach_leads}
 use Rattle.dh_table.proofs.Piled.{placed_inside, zeros}
-use Rattle.dh_table.proofs.Reading.{among-filter, number_names, wants_numbered}
+use Rattle.dh_record.proofs.Reading.{among-filter, number_names, wants_numbered}
 use Rattle.dh_table.proofs.Seeing.{flies_stands, flying_tasks, leads_stand, open_job, root_wants, task_at}
 
 -- ---- the wants of a text are keys of its edges

@@ -1,32 +1,27 @@
 -- The search for an open task: what is known of marks, as keys are seen.
-use Rattle.std.specs.Prelude.{◌≡◌, ◌⊎◌, ◌<◌, ◌≤◌, ℕ, Bool, true, false, List, [], length, replicate, None, slice_set, refl, IsSome, is_some}
-use Rattle.std.proofs.Common.{ap, sym, ◌∙◌, subst, arith, inl, inr}
-use Rattle.std.proofs.lemmas.Bool.Decides.{eqb_tells}
-use Rattle.std.proofs.lemmas.List.{get_or-set_same, get_or-set_other, get_or-replicate, length-replicate}
-use Rattle.std.proofs.Math.ListN.{get_or-eq_default}
-use Rattle.std.proofs.lemmas.Bool.{cases_lt, false≢true}
-use Rattle.std.proofs.lemmas.List.Sums.{sum_by-set}
+use Rattle.std.specs.Prelude.{◌≡◌, ◌<◌, ℕ, Bool, true, List, length, None, refl, IsSome, is_some, []}
+use Rattle.std.proofs.Common.{ap, sym, ◌∙◌, subst}
 use Rattle.dh_syntax.specs.declared.locations.Key.{Key}
 use Rattle.dh_syntax.specs.Expressions.Numbers.{eq}
 use Rattle.dh_imports.specs.Machine as machine
-use Rattle.dh_imports.specs.Machine.{IsAmong, Task, State, InFlight, IsOpen, TaskOf, looks, fetches, finishes, IsDue, Wanted, by_root, by_key, leads_to, outcome_of, stage_of}
+use Rattle.dh_imports.specs.Machine.{Task, State, InFlight, TaskOf, looks, fetches, finishes, IsDue, Wanted, leads_to, outcome_of, stage_of, leads_by}
 use Rattle.dh_imports.specs.Records.{lookup}
 use Rattle.dh_imports.specs.Resolver.{plan, of_plan, stage, Stage, TextOf, LookOf, Lacks, Has, Meets, Waits}
 use Rattle.dh_imports.specs.Walk.{wants}
-use Rattle.dh_imports.specs.Machine.{leads_by}
 use Rattle.dh_syntax.specs.Expressions.Tree.{Term}
 use Rattle.dh_demand.specs.Results.{Row, ask_of}
 use Rattle.dh_table.specs.declared.steps.Flight.{Flight}
-use Rattle.dh_table.specs.declared.steps.Kind.{Kind}
-use Rattle.dh_table.specs.declared.steps.Kind.TheVariants as kinds
-use Rattle.dh_table.specs.declared.texts.Entrant.{Entrant}
-use Rattle.dh_table.specs.declared.texts.Look.{Look}
-use Rattle.dh_table.specs.declared.texts.Text.{Text}
-use Rattle.dh_table.specs.declared.visits.Reach.TheVariants as reaches
-use Rattle.dh_table.specs.Inside.Reading.{record_by, IsReach}
-use Rattle.dh_table.specs.Inside.Searching.{Stands, Flies, IsTaskAt, is_set, IsMarked, IsJob, one_unless, unseen}
-use Rattle.dh_table.specs.States.{rows_of, key_named, digest_or_none, task_by}
-use Rattle.dh_table.proofs.Reading.{plan_limits}
+use Rattle.dh_record.specs.declared.kinds.Kind.{Kind}
+use Rattle.dh_record.specs.declared.kinds.Kind.TheVariants as kinds
+use Rattle.dh_record.specs.declared.rows.recorded.Entrant.{Entrant}
+use Rattle.dh_record.specs.declared.rows.recorded.Look.{Look}
+use Rattle.dh_record.specs.declared.rows.recorded.Text.{Text}
+use Rattle.dh_record.specs.declared.stage.reaches.Reach.TheVariants as reaches
+use Rattle.dh_record.specs.Reading.{record_by, IsReach}
+use Rattle.dh_table.specs.Inside.Searching.{Stands, Flies, IsTaskAt, IsJob}
+use Rattle.dh_record.specs.Marks.{is_set, IsMarked}
+use Rattle.dh_record.specs.Rows.{rows_of, key_named, digest_or_none, task_by}
+use Rattle.dh_record.proofs.Reading.{plan_limits}
 
 -- ---- a state by the parts of a table
 
@@ -124,42 +119,6 @@ no_task rows k (Lacks (LookOf h)) n t r d = r
 no_task rows k (Has i) n t r d = r
 no_task rows k (Meets j) n t r d = r
 no_task rows k (Waits y) n t r d = d
-
--- ---- marks
-
-pub set_cases : (bs : List Bool) (n x : ℕ) → is_set (slice_set bs n true) x ≡ true → (x ≡ n) ⊎ (is_set bs x ≡ true)
-set_cases bs n x h =
-    elim (eqb_tells x n) [
-      | inl p ↦ inl p.1
-      | inr p ↦ inr (sym (get_or-set_other bs n x true false p.1) ∙ h)
-    ]
-
-pub set_kept : (bs : List Bool) (n x : ℕ) → n < length bs → is_set bs x ≡ true → is_set (slice_set bs n true) x ≡ true
-set_kept bs n x l h =
-    elim (eqb_tells x n) [
-      | inl p ↦ subst (λ y. is_set (slice_set bs n true) y ≡ true) (sym p.1) (get_or-set_same bs n true false l)
-      | inr p ↦ get_or-set_other bs n x true false p.1 ∙ h
-    ]
-
-pub fewer_unseen : (bs : List Bool) (n : ℕ) → n < length bs → is_set bs n ≡ false → unseen (slice_set bs n true) < unseen bs
-fewer_unseen bs n l h =
-    let e = sum_by-set one_unless bs n true false l in
-    let f : one_unless (is_set bs n) ≡ 1 = ap one_unless h in
-    omega arith
-
-pub nothing_set : (n x : ℕ) → is_set (replicate n false) x ≡ true → ⊥
-nothing_set n x h =
-    elim (cases_lt x n) [
-      | inl l ↦ clash (sym (get_or-replicate n x false false l) ∙ h)
-      | inr g ↦ clash (sym (get_or-eq_default (replicate n false) false (subst (λ m. m ≤ x) (sym (length-replicate n false)) g)) ∙ h)
-    ]
-  where
-    clash : false ≡ true → ⊥
-    clash e = false≢true e
-
-module _ (keys : List Entrant) (marks marks' : List Bool) (rows-new : (n : ℕ) → is_set marks n ≡ true → is_set marks' n ≡ true) where
-  pub marked_kept : (j : Key) → IsMarked keys marks j → IsMarked keys marks' j
-  marked_kept j m = record { number = m.number; number_is = m.number_is; set = rows-new m.number m.set }
 
 -- ---- the task of a key that is seen
 

@@ -26,14 +26,14 @@ use Rattle.dh_import_laws.proofs.Grow.{longer-itself}
 use Rattle.dh_import_laws.proofs.Plans.{wanted-undecided}
 use Rattle.dh_demand.specs.Results.{number_of}
 use Rattle.dh_table.specs.declared.explored.Explored.{Explored}
-use Rattle.dh_table.specs.declared.texts.Entrant.{Entrant}
-use Rattle.dh_table.specs.Inside.Entering.{AreDistinct, AreMore, decided_at, keys_in}
+use Rattle.dh_record.specs.declared.rows.recorded.Entrant.{Entrant}
+use Rattle.dh_record.specs.Entering.{AreDistinct, AreMore, decided_at, keys_in}
 use Rattle.dh_table.specs.Inside.Piling.{IsPoured, number_at}
 use Rattle.dh_table.specs.Inside.Searching.{IsExploredBy, IsSameKnown, IsWaiting, Knows, is_open_origin, is_open_value, no_hole}
-use Rattle.dh_table.specs.States.{rows_of, key_named}
-use Rattle.dh_table.proofs.Deciding.{decided_length, names, number_itself, numbers}
+use Rattle.dh_record.specs.Rows.{rows_of, key_named}
+use Rattle.dh_record.proofs.Decided.{decided_length, names, number_itself, numbers}
 use Rattle.dh_table.proofs.Known.{GoesOn, known_on, known_quiet, leading_undecided, step_grows}
-use Rattle.dh_table.proofs.NewKeys.{entrant_grown}
+use Rattle.dh_record.proofs.NewKeys.{entrant_grown}
 use Rattle.dh_table.proofs.Searched.{place_poured}
 use Rattle.dh_table.proofs.TextLanding.{as_many_more, name_grown}
 

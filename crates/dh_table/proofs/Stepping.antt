@@ -9,13 +9,15 @@ use Rattle.dh_imports.specs.Replay.{kind_of}
 use Rattle.dh_syntax.specs.declared.locations.Key.{Key}
 use Rattle.dh_table.specs.declared.steps.Flight.{Flight}
 use Rattle.dh_table.specs.declared.steps.Job.{Job}
-use Rattle.dh_table.specs.declared.steps.Kind.{Kind}
-use Rattle.dh_table.specs.declared.steps.Kind.TheVariants as kinds
+use Rattle.dh_record.specs.declared.kinds.Kind.{Kind}
+use Rattle.dh_record.specs.declared.kinds.Kind.TheVariants as kinds
 use Rattle.dh_table.specs.declared.steps.Step.{Step}
 use Rattle.dh_table.specs.declared.steps.Step.TheVariants as steps
-use Rattle.dh_table.specs.declared.texts.Entrant.{Entrant}
-use Rattle.dh_table.specs.States.{task_by, task_of, flight_of, kind_by, step_by}
-use Rattle.dh_table.proofs.Logs.{latest, length-reverse-map, mapped, without-filter, others}
+use Rattle.dh_record.specs.declared.rows.recorded.Entrant.{Entrant}
+use Rattle.dh_record.specs.Rows.{task_by}
+use Rattle.dh_table.specs.States.{task_of, flight_of, kind_by, step_by}
+use Rattle.dh_record.proofs.Latest.{latest, length-reverse-map, mapped}
+use Rattle.dh_table.proofs.Logs.{without-filter, others}
 
 -- ---- states that differ in what is in flight and what was drawn
 

@@ -20,12 +20,13 @@ use Rattle.dh_laws.proofs.KeyOrder.{bool-case, none-some, some-equal, key_eq-tru
 use Rattle.dh_table.specs.declared.flights.Name.{Name}
 use Rattle.dh_table.specs.declared.steps.Flight.{Flight}
 use Rattle.dh_table.specs.declared.steps.Job.{Job}
-use Rattle.dh_table.specs.declared.texts.Entrant.{Entrant}
+use Rattle.dh_record.specs.declared.rows.recorded.Entrant.{Entrant}
 use Rattle.dh_table.specs.Inside.Recording.{task_named, IsFlightOf}
 use Rattle.dh_table.specs.Inside.Searching.{Flies, IsLastOf}
-use Rattle.dh_table.specs.declared.steps.Kind.{Kind}
-use Rattle.dh_table.specs.States.{key_named, task_by, task_of, flight_of}
-use Rattle.dh_table.proofs.Reading.{later}
+use Rattle.dh_record.specs.declared.kinds.Kind.{Kind}
+use Rattle.dh_record.specs.Rows.{key_named, task_by}
+use Rattle.dh_table.specs.States.{task_of, flight_of}
+use Rattle.dh_record.proofs.Reading.{later}
 
 -- ---- the same task
 

@@ -25,27 +25,27 @@ use Rattle.dh_demand.specs.declared.scans.Edge.{Edge}
 use Rattle.dh_demand.specs.declared.scans.Scan.{Scan}
 use Rattle.dh_demand.specs.Results.{Row, ask_of}
 use Rattle.dh_demand.specs.Scans.{Begins, Fits}
-use Rattle.dh_table.specs.declared.news.Noted.{Noted}
-use Rattle.dh_table.specs.declared.news.Noted.TheVariants as noteds
-use Rattle.dh_table.specs.declared.news.Parsed.{Parsed}
-use Rattle.dh_table.specs.declared.news.Parsed.TheVariants as parseds
+use Rattle.dh_record.specs.declared.news.Noted.{Noted}
+use Rattle.dh_record.specs.declared.news.Noted.TheVariants as noteds
+use Rattle.dh_record.specs.declared.news.Parsed.{Parsed}
+use Rattle.dh_record.specs.declared.news.Parsed.TheVariants as parseds
 use Rattle.dh_table.specs.declared.steps.Flight.{Flight}
 use Rattle.dh_table.specs.declared.steps.Job.{Job}
 use Rattle.dh_table.specs.declared.steps.Step.{Step}
 use Rattle.dh_table.specs.declared.steps.Step.TheVariants as steps
-use Rattle.dh_table.specs.declared.texts.Entrant.{Entrant}
-use Rattle.dh_table.specs.declared.texts.Text.{Text}
-use Rattle.dh_table.specs.Brought.{IsScanned}
-use Rattle.dh_table.specs.Inside.Entering.{AreDistinct, AreMore, AreEdges, IsListed, IsNew, keys_in, entered_all}
-use Rattle.dh_table.specs.Inside.Reading.{IsRead, IsScan}
-use Rattle.dh_table.specs.Inside.Recording.{imports_of, read_of}
+use Rattle.dh_record.specs.declared.rows.recorded.Entrant.{Entrant}
+use Rattle.dh_record.specs.declared.rows.recorded.Text.{Text}
+use Rattle.dh_record.specs.Brought.{IsScanned, imports_of, read_of}
+use Rattle.dh_record.specs.Entering.{AreDistinct, AreMore, AreEdges, IsListed, IsNew, keys_in, entered_all}
+use Rattle.dh_record.specs.Reading.{IsRead, IsScan}
 use Rattle.dh_table.specs.Shown.{Shown}
-use Rattle.dh_table.specs.States.{nobody, rows_of, row_of_entrant, key_named, known, outcome_of_number, limit_of, why_of, text_of, look_of, flight_of, task_of, task_by, noted_by, parsed_by, scanned, step_by, state_of}
+use Rattle.dh_record.specs.Rows.{nobody, rows_of, row_of_entrant, key_named, known, outcome_of_number, limit_of, why_of, text_of, look_of, task_by, noted_by, parsed_by, scanned}
+use Rattle.dh_table.specs.States.{flight_of, task_of, step_by, state_of}
 use Rattle.dh_table.specs.Tables.{IsKnown, IsOwned, IsStepNamed, keys_named}
 use Rattle.dh_table.proofs.Beginnings.{edges_fit, new_asks}
-use Rattle.dh_table.proofs.Distinct.{distinct_entered, in_entered_all, in_with_bare}
-use Rattle.dh_table.proofs.Logs.{latest, mapped}
-use Rattle.dh_table.proofs.NewKeys.{edge_grown, all_listed_grown}
+use Rattle.dh_record.proofs.Distinct.{distinct_entered, in_entered_all, in_with_bare}
+use Rattle.dh_record.proofs.Latest.{latest, mapped}
+use Rattle.dh_record.proofs.NewKeys.{edge_grown, all_listed_grown}
 use Rattle.dh_table.proofs.Stepping.{all-push}
 
 -- ---- what a text is

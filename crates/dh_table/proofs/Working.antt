@@ -13,7 +13,7 @@ use Rattle.dh_imports.specs.Records.{IsParsed}
 use Rattle.dh_syntax.specs.Text.Spelling.{ParsesTo}
 use Rattle.dh_import_laws.proofs.Due.{in_flight_due}
 use Rattle.dh_import_laws.proofs.Facts.{texts_are_parsed}
-use Rattle.dh_table.specs.Inside.Due.{AreSpelled, IsSpelled}
+use Rattle.dh_record.specs.Due.{AreSpelled, IsSpelled}
 use Rattle.dh_table.specs.Shown.{Shown}
 use Rattle.dh_table.specs.States.{IsReplayed, state_of}
 

@@ -1,5 +1,5 @@
 -- What the calls of a table do.
-use Rattle.std.specs.Prelude.{◌≡◌, ◌⊎◌, ℕ, suc, ◌+◌, ◌≤◌, Bool, true, false, if◌then◌else◌, List, [], ◌∷◌, ◌++◌, length, count_by, Option, Some, None, IsSome, ⊤}
+use Rattle.std.specs.Prelude.{◌≡◌, ◌⊎◌, ℕ, suc, ◌+◌, ◌≤◌, Bool, true, false, if◌then◌else◌, List, ◌∷◌, ◌++◌, length, count_by, Option, Some, None, IsSome, ⊤, []}
 use Rattle.dh_syntax.specs.declared.locations.Digest.{Digest}
 use Rattle.dh_syntax.specs.declared.locations.Loc.{Loc}
 use Rattle.dh_syntax.specs.Expressions.Tree.{Term}
@@ -11,12 +11,14 @@ use Rattle.dh_table.specs.declared.claims.Claimed.{Claimed}
 use Rattle.dh_table.specs.declared.claims.Claimed.TheVariants as claimed
 use Rattle.dh_table.specs.declared.deliveries.Taken.{Taken}
 use Rattle.dh_table.specs.declared.deliveries.Taken.TheVariants as taken
-use Rattle.dh_table.specs.declared.news.News.{News}
+use Rattle.dh_record.specs.declared.news.News.{News}
 use Rattle.dh_table.specs.declared.steps.Step.{Step}
 use Rattle.dh_table.specs.declared.tables.Ticket.{Ticket}
-use Rattle.dh_table.specs.declared.texts.Entrant.{Entrant}
+use Rattle.dh_record.specs.declared.rows.recorded.Entrant.{Entrant}
 use Rattle.dh_table.specs.Shown.{Shown}
-use Rattle.dh_table.specs.States.{key_named, kind_by, news_of, state_of}
+use Rattle.dh_record.specs.Rows.{key_named}
+use Rattle.dh_table.specs.States.{kind_by, state_of}
+use Rattle.dh_record.specs.Brought.{news_of, brings_failure, has_failed, is_failed}
 
 -- all but the room is as it was
 abbrev pub IsSame : Shown → Shown → Type 0
@@ -154,24 +156,9 @@ IsTaken (taken.Memory back held) = ⊥
 abbrev pub StaysDecided : Shown → Shown → Type 0
 StaysDecided old new = IsSome (root_end (state_of old)) → IsSome (root_end (state_of new))
 
--- ---- failures of devices
-
-abbrev pub has_failed : found.Noted → Bool
-has_failed found.Failed = true
-has_failed _ = false
-
-abbrev pub is_failed : found.Seen → Bool
-is_failed found.Failed = true
-is_failed _ = false
-
 -- how many recorded texts and looks are Failed
 abbrev pub failures : State → ℕ
 failures s = count_by (λ (t : Loc × found.Noted). has_failed t.1) s.recorded.texts + count_by (λ (l : Digest × found.Seen). is_failed l.1) s.recorded.looks
-
-abbrev pub brings_failure : machine.News → Bool
-brings_failure (machine.fetched l text) = has_failed text
-brings_failure (machine.looked d look) = is_failed look
-brings_failure (machine.finished k i limit o) = false
 
 -- how many failures this answer to news adds
 abbrev pub new_failures : News → Taken → ℕ

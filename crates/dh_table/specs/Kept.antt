@@ -1,15 +1,10 @@
 -- What a table keeps in the cache.
-use Rattle.std.specs.Prelude.{◌≡◌, ℕ, List, [], Option, Some, None}
+use Rattle.std.specs.Prelude.{◌≡◌, ℕ, List, Option, Some, None, []}
 use Rattle.dh_syntax.specs.declared.locations.Digest.{Digest}
 use Rattle.dh_imports.specs.Keeps.{AreKeeps}
 use Rattle.dh_imports.specs.Machine.{State}
 use Rattle.dh_imports.specs.Replay.{RootEnd, ready, bad, looped, too_many}
 use Rattle.dh_imports.specs.Resolver.{resolve}
-use Rattle.dh_ports.specs.declared.mem_desks.CacheEntry.{CacheEntry}
-
--- an entry as the definitions have it
-abbrev pub pair_of : CacheEntry → Digest × List ℕ
-pair_of e = (e.digest, e.bytes)
 
 -- Where the root is ready, the entries that its run keeps; else none.
 abbrev pub IsKeeping : State → Option RootEnd → List (Digest × List ℕ) → Type 0

@@ -1,14 +1,8 @@
-pub mod Brought
 pub mod Calls
-pub mod Ends
-pub mod Entries
-pub mod Finds
 pub mod Inside
-pub mod Items
 pub mod Kept
 pub mod Roots
 pub mod Shown
 pub mod States
 pub mod Tables
-pub mod Values
 pub mod Works

@@ -1,15 +1,12 @@
 -- How the root of a table ends.
-use Rattle.std.specs.Prelude.{◌≡◌, ◌+◌, ◌≤◌, ℕ, Some, None}
+use Rattle.std.specs.Prelude.{◌≡◌, Some, None}
 use Rattle.dh_imports.specs.declared.outcomes.Why.TheVariants.{Cycle, TooMany}
-use Rattle.dh_syntax.specs.Expressions.Arity.{IsWellFormed}
 use Rattle.dh_syntax.specs.Expressions.Bridge.{term}
-use Rattle.dh_syntax.specs.Expressions.Nesting.{nesting}
 use Rattle.dh_syntax.specs.Expressions.Tree.{Term}
 use Rattle.dh_imports.specs.Replay.{RootEnd, ready, bad, looped, too_many}
-use Rattle.dh_syntax.specs.Limits.{most_nesting}
-use Rattle.dh_syntax.specs.Names.Indices.{IndicesBelow}
 use Rattle.dh_table.specs.declared.roots.Ended.{Ended}
 use Rattle.dh_table.specs.declared.roots.Ended.TheVariants as ends
+use Rattle.dh_record.specs.Values.{FitsRoot}
 
 -- The root ends so: a loop is the fault `Cycle` of its least key, and too many keys are a fault of no key.
 abbrev pub IsEnd : RootEnd → Ended → Type 0
@@ -18,12 +15,6 @@ IsEnd (bad b) (ends.Bad c) = c ≡ b
 IsEnd (looped j) (ends.Bad c) = c ≡ record { at = Some j; why = Cycle }
 IsEnd too_many (ends.Bad c) = c ≡ record { at = None; why = TooMany }
 IsEnd _ _ = ⊥
-
--- the root with its values has the form of the root, nests little deeper, and has no greater indices than the root and values
-pub record FitsRoot (root e : Term) : Type 0 where
-  pub well_formed : IsWellFormed root → IsWellFormed e
-  pub shallow : nesting e ≤ nesting root + most_nesting
-  pub indices : (l : ℕ) → most_nesting ≤ l → IndicesBelow l root → IndicesBelow l e
 
 abbrev pub IsFitEnd : Term → Ended → Type 0
 IsFitEnd root (ends.Ready e) = FitsRoot root (term e)

@@ -18,16 +18,17 @@ use Rattle.dh_table.specs.declared.steps.Job.{Job}
 use Rattle.dh_table.specs.declared.steps.Step.{Step}
 use Rattle.dh_table.specs.declared.steps.Step.TheVariants as steps
 use Rattle.dh_table.specs.declared.tables.Table.TheInside.{Inside}
-use Rattle.dh_table.specs.declared.texts.Entrant.{Entrant}
-use Rattle.dh_table.specs.declared.texts.Text.{Text}
-use Rattle.dh_table.specs.Brought.{AreShelved, AreTold}
-use Rattle.dh_table.specs.Inside.Entering.{AreDistinct, IsListed, keys_in}
-use Rattle.dh_table.specs.Inside.Due.{IsValued}
-use Rattle.dh_table.specs.Inside.Reading.{IsRead}
+use Rattle.dh_record.specs.declared.rows.recorded.Entrant.{Entrant}
+use Rattle.dh_record.specs.declared.rows.recorded.Text.{Text}
+use Rattle.dh_record.specs.Brought.{AreShelved, AreTold}
+use Rattle.dh_record.specs.Entering.{AreDistinct, IsListed, keys_in}
+use Rattle.dh_record.specs.Due.{IsValued}
+use Rattle.dh_record.specs.Reading.{IsRead}
 use Rattle.dh_table.specs.Inside.Searching.{HasRoom, Knows}
-use Rattle.dh_table.specs.Inside.Sorting.{IsOrder, rank_of_look, rank_of_text}
+use Rattle.dh_record.specs.Sorting.{IsOrder, rank_of_look, rank_of_text}
 use Rattle.dh_table.specs.Shown.{Shown}
-use Rattle.dh_table.specs.States.{IsFrozenLook, IsReplayed, rows_of, state_of, text_of}
+use Rattle.dh_table.specs.States.{IsFrozenLook, IsReplayed, state_of}
+use Rattle.dh_record.specs.Rows.{rows_of, text_of}
 
 abbrev pub view_of : {W : _} → Inside W → Shown
 view_of t = record {

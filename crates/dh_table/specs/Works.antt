@@ -4,8 +4,8 @@ use Rattle.dh_imports.specs.Machine as machine
 use Rattle.dh_imports.specs.Machine.{State, InFlight, stage_of}
 use Rattle.dh_table.specs.declared.works.Work.{Work}
 use Rattle.dh_table.specs.declared.works.Work.TheVariants as works
-use Rattle.dh_table.specs.Items.{stage_of_item}
-use Rattle.dh_table.specs.Values.{IsFit}
+use Rattle.dh_record.specs.Items.{stage_of_item}
+use Rattle.dh_record.specs.Values.{IsFit}
 
 -- the task that is in flight under this serial, with what it needs: for a finish the item of the key's stage
 abbrev pub IsWork : State → ℕ → Work → Type 0

@@ -6,15 +6,16 @@ ghost use Rattle.dh_imports.specs.Walk.{Needs};
 ghost use Rattle.dh_imports.specs.Replay.{root_end};
 ghost use Rattle.dh_table.specs.Calls.{Claims};
 ghost use Rattle.dh_table.specs.Inside.Searching.{IsFound, IsJob, IsLoop};
-ghost use Rattle.dh_table.specs.States.{key_named, state_of};
+ghost use Rattle.dh_record.specs.Rows.{key_named};
+ghost use Rattle.dh_table.specs.States.{state_of};
 
-use crate::lookups::{Looks, Texts};
 use crate::loops::least_of_loop;
 use crate::searches::find_open;
 use crate::steps::Job;
 use crate::tables::{Table, Ticket};
 use dh_demand::Next;
 use dh_ports::World;
+use dh_record::{Looks, Texts};
 use dh_syntax::MOST_KEYS;
 
 /// What a claim answers.

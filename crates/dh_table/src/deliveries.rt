@@ -2,19 +2,16 @@
 
 ghost use Rattle.std.specs.Prelude.{◌≡◌, ◌+◌, ◌≤◌, ℕ, MatchOption, length};
 ghost use Rattle.dh_imports.specs.Machine.{InFlight, IsInTime};
-ghost use Rattle.dh_table.specs.Brought.{BringsText, BringsLook, BringsOutcome, IsOfDigest, IsScanned, IsShelved, IsTold};
+ghost use Rattle.dh_record.specs.Brought.{BringsText, BringsLook, BringsOutcome, IsOfDigest, IsScanned, IsShelved, IsTold, news_of};
 ghost use Rattle.dh_table.specs.Calls.{IsOwnSerial, IsTaken, Takes, StaysDecided, failures, new_failures};
 ghost use Rattle.dh_table.specs.Inside.Recording.{task_named, IsOnly, IsFinish, IsOwnFinish};
-ghost use Rattle.dh_table.specs.States.{state_of, news_of};
+ghost use Rattle.dh_table.specs.States.{state_of};
 
-use crate::entries::Seen;
 use crate::flights::{Name, flight_at};
-use crate::items::{Done, Item};
-use crate::news::{News, Noted, Parsed};
-use crate::own_items::is_own_item;
 use crate::steps::Flight;
 use crate::tables::{Table, Ticket};
 use dh_ports::World;
+use dh_record::{Done, Item, News, Noted, Parsed, Seen, is_own_item};
 use dh_syntax::{Digest, Loc};
 
 /// What becomes of news.

@@ -2,7 +2,8 @@
 
 ghost use Rattle.std.specs.Prelude.{◌≡◌, ◌<◌, ◌≤◌, ◌+◌, ℕ, true, false, length, max, replicate, IfOk, OnOk};
 ghost use Rattle.dh_table.specs.Inside.Piling.{IsPoured, number_at};
-ghost use Rattle.dh_table.specs.Inside.Searching.{is_set, HasRoom, IsSameKnown};
+ghost use Rattle.dh_record.specs.Marks.{is_set};
+ghost use Rattle.dh_table.specs.Inside.Searching.{HasRoom, IsSameKnown};
 
 use crate::piles::{Piles, pour};
 use dh_demand::Marks;

@@ -7,10 +7,10 @@ ghost use Rattle.dh_imports.specs.Records.{lookup};
 ghost use Rattle.dh_table.specs.Inside.Recording.{task_named, IsFlightOf};
 ghost use Rattle.dh_table.specs.States.{task_of, flight_of};
 
-use crate::entrants::Entrants;
 use crate::sameness::{is_same_digest, job_of};
-use crate::steps::{Flight, Job, Kind};
+use crate::steps::{Flight, Job};
 use dh_demand::Results;
+use dh_record::{Entrants, Kind};
 use dh_syntax::{Digest, Key, Loc};
 use dh_terms::{is_same_key, is_same_loc};
 

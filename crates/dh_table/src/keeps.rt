@@ -7,15 +7,14 @@ ghost use Rattle.dh_imports.specs.Machine.{root_walk};
 ghost use Rattle.dh_imports.specs.Replay.{root_end};
 ghost use Rattle.dh_imports.specs.Resolver.{resolve};
 ghost use Rattle.dh_imports.specs.Walk.{Ready};
-ghost use Rattle.dh_table.specs.Kept.{IsKeeping, pair_of};
+ghost use Rattle.dh_table.specs.Kept.{IsKeeping};
+ghost use Rattle.dh_record.specs.Kept.{pair_of};
 ghost use Rattle.dh_table.specs.States.{state_of};
 
-use crate::fresh::least_fresh;
-use crate::kept::entries_of;
 use crate::tables::Table;
-use crate::visited::mark_visited;
 use dh_demand::{Marks, Next};
 use dh_ports::{Cache, World};
+use dh_record::{entries_of, least_fresh, mark_visited};
 use dh_syntax::{MOST_KEYS, Many};
 use std::alloc::{AllocError, Global};
 

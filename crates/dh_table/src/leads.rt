@@ -11,15 +11,15 @@ ghost use Rattle.dh_demand.specs.Results.{ask_of};
 ghost use Rattle.dh_demand.specs.Scans.{Fits, text_key};
 ghost use Rattle.dh_demand.specs.Wants.{HasNumber};
 ghost use Rattle.dh_table.specs.Inside.Piling.{number_at};
-ghost use Rattle.dh_table.specs.Inside.Reading.{IsPlan};
-ghost use Rattle.dh_table.specs.Inside.Searching.{is_set, AreEdgesPut, ArePut, HasEdge, HasRoom};
-ghost use Rattle.dh_table.specs.States.{rows_of, key_named};
+ghost use Rattle.dh_record.specs.Reading.{IsPlan};
+ghost use Rattle.dh_record.specs.Marks.{is_set};
+ghost use Rattle.dh_table.specs.Inside.Searching.{AreEdgesPut, ArePut, HasEdge, HasRoom};
+ghost use Rattle.dh_record.specs.Rows.{rows_of, key_named};
 
-use crate::entrants::Entrants;
 use crate::explored::{Explored, READY};
 use crate::piles::Piles;
-use crate::plans::Plan;
 use dh_demand::{Edge, Marks, Results, Scan, wanted};
+use dh_record::{Entrants, Plan};
 use dh_syntax::Loc;
 
 /// Puts the keys to which a key leads on the pile of those to look at, where they were on none yet. Answers one of them for a
@@ -36,8 +36,8 @@ pub(crate) fn lead(keys: &Entrants, n: u32, plan: Plan<'_>, by: u32, explored: &
     ensures piles { length explored.new.piles ≡ length explored.old.piles }
 {
     match plan {
-        Plan::Fetch | Plan::Look | Plan::Now => by,
-        Plan::Walk(scan) => {
+        Plan::Fetch | Plan::Look | Plan::Now(_) => by,
+        Plan::Walk(scan, _allow) => {
             put_wanted(scan, Some(&keys.key(n).loc), keys, explored);
             pick(scan.edges.as_slice(), &explored.marks, by)
         }

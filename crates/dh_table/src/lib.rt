@@ -5,32 +5,16 @@
 //! definitions, and the table's type keeps that its history leads to its state.
 #![tactic(auto)]
 
-mod blames;
 mod claims;
 mod deliveries;
-mod digests;
-mod due_items;
-mod entering;
-mod entrants;
-mod entries;
-mod equality;
 mod explored;
 mod flights;
-mod fresh;
-mod items;
 mod keeps;
-mod kept;
 mod leads;
-mod lookups;
 mod loops;
-mod news;
 mod opening;
-mod orders;
-mod own_items;
 mod passing;
 mod piles;
-mod plans;
-mod probes;
 mod queries;
 mod readings;
 mod recording;
@@ -39,21 +23,15 @@ mod roots;
 mod sameness;
 mod scratch;
 mod searches;
-mod sorting;
 mod steps;
 mod tables;
-mod texts;
-mod visited;
-mod visits;
 mod works;
 
 pub use claims::Claimed;
 pub use deliveries::Taken;
-pub use entries::{Entry, Seen};
-pub use items::{Body, Done, Item};
-pub use news::{News, Noted, Parsed};
+pub use dh_record::{Body, Done, Entry, Item, Kind, News, Noted, Parsed, Seen};
 pub use opening::OpenFault;
 pub use roots::Ended;
-pub use steps::{Kind, Step};
+pub use steps::Step;
 pub use tables::{Table, Ticket};
 pub use works::Work;

@@ -5,17 +5,13 @@ ghost use Rattle.dh_syntax.specs.Imports.Keys.{key_eq};
 ghost use Rattle.dh_imports.specs.Machine.{State, root_walk};
 ghost use Rattle.dh_imports.specs.Resolver.{lesser, least_back_to};
 ghost use Rattle.dh_imports.specs.Walk.{Needs};
-ghost use Rattle.dh_table.specs.Inside.Entering.{IsListed};
-ghost use Rattle.dh_table.specs.Inside.Reading.{IsRead};
+ghost use Rattle.dh_record.specs.Entering.{IsListed};
+ghost use Rattle.dh_record.specs.Reading.{IsRead};
 ghost use Rattle.dh_table.specs.Inside.Searching.{IsStuck, IsNextStuck, IsLoop};
-ghost use Rattle.dh_table.specs.States.{rows_of, key_named};
+ghost use Rattle.dh_record.specs.Rows.{rows_of, key_named};
 
-use crate::entrants::Entrants;
-use crate::lookups::{Looks, Texts};
-use crate::orders::is_at_most;
-use crate::tables::put;
-use crate::visits::{Reach, look_ahead};
 use dh_demand::Marks;
+use dh_record::{Entrants, Looks, Reach, Texts, is_at_most, look_ahead, put};
 use dh_terms::is_same_key;
 
 /// The least key of the loop into which the blocking keys lead from this one, where no task is open and nothing is in flight.

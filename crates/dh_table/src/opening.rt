@@ -6,13 +6,11 @@ ghost use Rattle.dh_imports.specs.Machine.{opening};
 ghost use Rattle.dh_imports.specs.Replay.{has_too_many};
 ghost use Rattle.dh_table.specs.Calls.{IsOpened};
 
-use crate::entering::enter_few;
-use crate::entrants::Entrants;
 use crate::scratch::Scratch;
-use crate::sorting::Order;
 use crate::tables::Table;
 use dh_demand::{Marks, Scan, import_keys};
 use dh_ports::World;
+use dh_record::{Entrants, Order, enter_few};
 use dh_syntax::{Expr, MOST_KEYS};
 use std::alloc::{AllocError, Global};
 use std::marker::PhantomData;

@@ -5,7 +5,7 @@ ghost use Rattle.std.specs.Option.{option_copied, option_map};
 ghost use Rattle.dh_imports.specs.Machine.{Task, IsOpen, outcome_of};
 ghost use Rattle.dh_imports.specs.Outcomes.{plain};
 ghost use Rattle.dh_imports.specs.Replay.{distinct, keys, root_end};
-ghost use Rattle.dh_table.specs.Brought.{AreShelved, AreTold};
+ghost use Rattle.dh_record.specs.Brought.{AreShelved, AreTold};
 ghost use Rattle.dh_table.specs.Calls.{IsIdle};
 ghost use Rattle.dh_table.specs.States.{state_of};
 

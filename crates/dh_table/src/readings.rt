@@ -8,15 +8,13 @@ ghost use Rattle.dh_imports.specs.Machine.{outcome_of};
 ghost use Rattle.dh_imports.specs.Records.{Found, text_at};
 ghost use Rattle.dh_imports.specs.TextPaths.{text_path};
 ghost use Rattle.dh_demand.specs.Scans.{text_key};
-ghost use Rattle.dh_table.specs.Finds.{bytes_found, path_found};
+ghost use Rattle.dh_record.specs.Finds.{bytes_found, path_found};
 ghost use Rattle.dh_table.specs.States.{record_of, state_of};
 
-use crate::digests::digests_of;
-use crate::lookups::{Texts, text_at};
-use crate::news::Noted;
 use crate::tables::Table;
 use dh_demand::{keys_behind, text_path};
 use dh_ports::{Got, World};
+use dh_record::{Noted, Texts, digests_of, text_at};
 use dh_syntax::{Digest, Loc};
 use std::alloc::{AllocError, Global};
 

@@ -3,28 +3,24 @@
 ghost use Rattle.std.specs.Prelude.{◌≡◌, ◌+◌, ◌<◌, ◌≤◌, ◌^◌, ◌++◌, ◌∷◌, [], if◌then◌else◌, Some, IfOk, OnOk, OnErr, MatchOption, length, vec_len, vec_capacity};
 ghost use Rattle.dh_imports.specs.Machine.{IsInTime};
 ghost use Rattle.dh_imports.specs.Records.{IsGood};
-ghost use Rattle.dh_table.specs.Brought.{IsOfDigest, IsScanned, IsShelved, IsTold};
+ghost use Rattle.dh_record.specs.Brought.{IsOfDigest, IsScanned, IsShelved, IsTold, imports_of, read_of, news_of};
 ghost use Rattle.dh_table.specs.Calls.{Records, StaysDecided};
-ghost use Rattle.dh_table.specs.Inside.Entering.{keys_in, entered_all, AreMore, AreEdges};
-ghost use Rattle.dh_table.specs.Inside.Recording.{imports_of, read_of};
+ghost use Rattle.dh_record.specs.Entering.{keys_in, entered_all, AreMore, AreEdges};
 ghost use Rattle.dh_table.specs.Inside.Searching.{IsSameKnown};
-ghost use Rattle.dh_table.specs.States.{key_named, rows_of, seen_by, state_of, news_of};
+ghost use Rattle.dh_record.specs.Rows.{key_named, rows_of, seen_by};
+ghost use Rattle.dh_table.specs.States.{state_of};
 ghost use Rattle.dh_table.specs.Tables.{IsRoomy};
 
-use crate::entering::enter_all;
-use crate::entrants::Entrants;
-use crate::entries::Seen;
-use crate::items::Done;
-use crate::news::{News, Noted, Parsed};
 use crate::passing::is_open_value;
-use crate::probes::{LocProbe, LookProbe};
 use crate::scratch::Scratch;
-use crate::sorting::Order;
 use crate::steps::Step;
-use crate::tables::{Table, put};
-use crate::texts::{Look, Text};
+use crate::tables::Table;
 use dh_demand::{Edges, Scan};
 use dh_ports::World;
+use dh_record::{
+    Done, Entrants, LocProbe, Look, LookProbe, News, Noted, Order, Parsed, Seen, Text, enter_all,
+    imports_of, next_number, put, read_of,
+};
 use dh_syntax::{Digest, Key, Loc, ParseFault};
 use std::alloc::AllocError;
 
@@ -134,45 +130,6 @@ fn tell_good(digest: &Digest, look: &Seen)
         Seen::Good(entry) => entry.is_good(),
         Seen::Miss | Seen::Failed => {}
     }
-}
-
-// The keys of the imports of a text.
-fn imports_of(scan: &Option<Parsed>) -> &[Key]
-    ensures { result.now ≡ imports_of scan.now }
-{
-    match scan {
-        Some(Parsed::Good { expr: _, keys }) => keys.as_slice(),
-        Some(Parsed::Bad(_)) | None => &[],
-    }
-}
-
-// A text with the edges of its imports.
-fn read_of(scan: Option<Parsed>, edges: Edges) -> Option<Result<Scan, ParseFault>>
-    ensures { result ≡ read_of scan edges }
-{
-    match scan {
-        Some(Parsed::Good { expr, keys: _ }) => Some(Ok(Scan { expr, edges })),
-        Some(Parsed::Bad(fault)) => Some(Err(fault)),
-        None => None,
-    }
-}
-
-// The number of one more thing, and room for it.
-fn next_number<T>(rows: &mut Vec<T>, order: &mut Order) -> Result<u32, AllocError>
-    ensures items { rows.new.items ≡ rows.old.items }
-    ensures len { vec_len rows.new ≡ vec_len rows.old }
-    ensures numbers { order.new.numbers.items ≡ order.old.numbers.items }
-    ensures number { IfOk result (λ n. n ≡ length rows.new.items) }
-    ensures room { OnOk result (vec_len rows.new < vec_capacity rows.new) }
-    ensures place { OnOk result (vec_len order.new.numbers < vec_capacity order.new.numbers) }
-{
-    rows.reserve(1)?;
-    order.reserve()?;
-    let count = rows.len();
-    if count > u32::MAX as usize {
-        return Err(AllocError);
-    }
-    Ok(count as u32)
 }
 
 // Room for one more text at a location, with its number, and numbers for the keys of its imports. Where memory is wanting, all

@@ -5,11 +5,11 @@ ghost use Rattle.dh_imports.specs.Replay.{root_end};
 ghost use Rattle.dh_table.specs.Roots.{IsEnd, IsFitEnd};
 ghost use Rattle.dh_table.specs.States.{state_of};
 
-use crate::blames::blame_at;
 use crate::tables::Table;
 use dh_demand::{Next, assemble};
 use dh_imports::{Blame, Why};
 use dh_ports::World;
+use dh_record::blame_at;
 use dh_syntax::{Expr, MOST_KEYS};
 use std::alloc::{AllocError, Global};
 

@@ -6,13 +6,14 @@ ghost use Rattle.std.specs.Option.{option_map};
 ghost use Rattle.dh_syntax.specs.Expressions.Numbers.{eq};
 ghost use Rattle.dh_syntax.specs.Expressions.SameTree.{digest_eq};
 ghost use Rattle.dh_imports.specs.Records.{lookup};
-ghost use Rattle.dh_table.specs.declared.texts.Entrant.{Entrant};
+ghost use Rattle.dh_record.specs.declared.rows.recorded.Entrant.{Entrant};
 ghost use Rattle.dh_table.specs.Inside.Searching.{Flies};
-ghost use Rattle.dh_table.specs.States.{digest_or_none, task_of, flight_of};
+ghost use Rattle.dh_record.specs.Rows.{digest_or_none};
+ghost use Rattle.dh_table.specs.States.{task_of, flight_of};
 
-use crate::entrants::Entrants;
-use crate::steps::{Flight, Job, Kind};
+use crate::steps::{Flight, Job};
 use dh_demand::Results;
+use dh_record::{Entrants, Kind};
 use dh_syntax::Digest;
 use dh_terms::{is_same_key, is_same_loc};
 

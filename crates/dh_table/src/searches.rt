@@ -5,24 +5,21 @@ ghost use Rattle.std.specs.Prelude.{◌≡◌, ◌<◌, ◌≤◌, ◌^◌, ℕ,
 ghost use Rattle.dh_syntax.specs.Expressions.Bridge.{term};
 ghost use Rattle.dh_imports.specs.Machine.{State, outcome_of};
 ghost use Rattle.dh_demand.specs.Scans.{Fits};
-ghost use Rattle.dh_table.specs.Inside.Entering.{AreDistinct, IsListed, keys_in};
+ghost use Rattle.dh_record.specs.Entering.{AreDistinct, IsListed, keys_in};
 ghost use Rattle.dh_table.specs.Inside.Piling.{number_at};
-ghost use Rattle.dh_table.specs.Inside.Reading.{IsRead};
+ghost use Rattle.dh_record.specs.Reading.{IsRead};
 ghost use Rattle.dh_table.specs.Inside.Searching.{Stands, HasRoom, IsExploredBy, IsFound, IsSearched, IsTried, Knows, left_to_see, no_hole};
-ghost use Rattle.dh_table.specs.States.{rows_of, key_named};
-ghost use Rattle.dh_table.specs.declared.texts.Look.{Look};
-ghost use Rattle.dh_table.specs.declared.texts.Text.{Text};
+ghost use Rattle.dh_record.specs.Rows.{rows_of, key_named};
+ghost use Rattle.dh_record.specs.declared.rows.recorded.Look.{Look};
+ghost use Rattle.dh_record.specs.declared.rows.recorded.Text.{Text};
 
-use crate::entrants::Entrants;
 use crate::explored::{Explored, HELD, READY, waiters};
 use crate::leads::{lead, put_wanted};
-use crate::lookups::{Looks, Texts};
 use crate::piles::pour;
-use crate::plans::plan_of;
 use crate::sameness::flies;
 use crate::steps::{Flight, Job};
-use crate::visits::{Reach, reach_of};
 use dh_demand::{Results, Scan};
+use dh_record::{Entrants, Looks, Reach, Texts, plan_of, reach_of};
 
 /// What a look at the next key came to.
 #[derive(Clone, Copy, Debug)]

@@ -1,12 +1,6 @@
 //! Steps, as the history shows them.
 
-/// What a task is.
-#[derive(Clone, Copy, Debug, PartialEq, Eq)]
-pub enum Kind {
-    Fetch,
-    Look,
-    Finish,
-}
+use dh_record::Kind;
 
 /// A step of the table.
 #[derive(Clone, Copy, Debug, PartialEq, Eq)]

@@ -5,19 +5,17 @@ ghost use Rattle.dh_imports.specs.Machine as machine;
 ghost use Rattle.dh_imports.specs.Machine.{Task, IsOpen, root_walk, InFlight, IsInTime, May, effect};
 ghost use Rattle.dh_table.specs.Calls.{Adds, IsSame, Releases, with_late};
 ghost use Rattle.dh_demand.specs.Nexts.{IsNext, IsInside};
-ghost use Rattle.dh_table.specs.States.{IsFrozenLook, rows_of, key_named, state_of, task_of, news_of};
+ghost use Rattle.dh_table.specs.States.{IsFrozenLook, state_of, task_of};
+ghost use Rattle.dh_record.specs.Rows.{rows_of, key_named};
+ghost use Rattle.dh_record.specs.Brought.{news_of};
 
-use crate::entrants::Entrants;
-use crate::lookups::{Looks, Texts};
-use crate::news::News;
 use crate::sameness::job_of;
 use crate::scratch::Scratch;
-use crate::sorting::Order;
-use crate::steps::{Flight, Job, Kind, Step};
-use crate::texts::{Look, Text};
+use crate::steps::{Flight, Job, Step};
 use dh_demand::{Next, Results, Scan, next};
 use dh_imports::Outcome;
 use dh_ports::World;
+use dh_record::{Entrants, Kind, Look, Looks, News, Order, Text, Texts, put};
 use dh_syntax::Key;
 use std::alloc::{AllocError, Global};
 use std::marker::{Model, PhantomData};
@@ -88,16 +86,6 @@ impl<W: World> Model for Table<W> {
     ghost view = { λ t. view_of t };
 
     ghost invariant = { λ t. IsGood W.told W.shelved t };
-}
-
-/// Adds an element where there is room.
-pub(crate) fn put<T: Drop>(v: &mut Vec<T>, x: T)
-    requires { vec_len v.old < vec_capacity v.old }
-    ensures items { v.new.items ≡ v.old.items ++ x ∷ [] }
-    ensures len { vec_len v.new ≡ vec_len v.old + 1 }
-    ensures room { vec_capacity v.old ≤ vec_capacity v.new }
-{
-    let Ok(()) = v.push(x) else { unreachable!() };
 }
 
 impl Ticket {
@@ -241,7 +229,7 @@ impl<W: World> Table<W> {
 }
 
 impl<W: World> Results for Table<W> {
-    ghost use Rattle.dh_table.specs.States.{rows_of};
+    ghost use Rattle.dh_record.specs.Rows.{rows_of};
 
     ghost rows = { λ t. rows_of t.keys };
 

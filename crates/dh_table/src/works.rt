@@ -5,13 +5,12 @@ ghost use Rattle.dh_imports.specs.Machine.{Task, InFlight};
 ghost use Rattle.dh_table.specs.States.{IsFrozenLook, state_of, task_of};
 ghost use Rattle.dh_table.specs.Works.{IsWork, IsFitWork};
 
-use crate::due_items::due_item;
-use crate::items::Item;
 use crate::sameness::job_of;
-use crate::steps::{Job, Kind};
+use crate::steps::Job;
 use crate::tables::{Table, Ticket};
 use dh_demand::Results;
 use dh_ports::World;
+use dh_record::{Item, Kind, due_item};
 use dh_syntax::{Digest, Loc};
 use std::alloc::{AllocError, Global};
 

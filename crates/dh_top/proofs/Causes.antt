@@ -1,17 +1,21 @@
 -- Why a run ended by the status of a fault, and what it wrote.
-use Rattle.std.proofs.Common.{◌≡◌, ◌⊎◌, inl, inr, ℕ, List, [], Option, Some, None, Result, Ok, Err, Bool, true, false, true≢false, refl, sym, ap, ◌∙◌, subst}
-use Rattle.std.specs.Prelude.{IsTrue}
+use Rattle.std.proofs.Common.{◌≡◌, ◌⊎◌, inl, inr, ℕ, suc, List, [], ◌∷◌, Option, Some, None, Result, Ok, Err, Bool, true, false, true≢false, refl, sym, ap, ◌∙◌, subst}
+use Rattle.std.specs.Prelude.{IsTrue, length}
 use Rattle.dh_command.specs.declared.commands.Command.{Command}
 use Rattle.dh_command.specs.declared.statuses.Status.{Status}
 use Rattle.dh_command.specs.declared.statuses.Status.TheVariants as status
 use Rattle.dh_command.specs.declared.verbs.Verb.{Verb}
 use Rattle.dh_command.specs.declared.verbs.Verb.TheVariants as verb
-use Rattle.dh_command.specs.Answer.{CommandAnswer, usage, does, Does, encodes, decodes, decodes_none, spells, spells_none, takes_steps, explains, helps, tells_version, ResolvedAnswer, valued, faulty, circular, overfull, FaultAnswer, at_fault, ValuedAnswer, itself, frozen, typed, TypedAnswer, prints, refuses, limited, no_value, cycle_at, too_many_keys}
+use Rattle.dh_command.specs.Answer.{CommandAnswer, usage, does, DoesAll, on_input, on_files, FileAnswer, FileAnswers, hashes_file, file_lacks_memory, no_file, a_file, file_lines, first_fault, nothing_found, Does, encodes, decodes, decodes_none, spells, spells_none, takes_steps, explains, helps, tells_version, ResolvedAnswer, valued, faulty, circular, overfull, FaultAnswer, at_fault, ValuedAnswer, itself, frozen, typed, TypedAnswer, prints, refuses, limited, no_value, cycle_at, too_many_keys}
+use Rattle.dh_command.specs.Generating.{GenAnswer, counts, faults}
 use Rattle.dh_command.specs.Lines.{read_line, memory_line, usage_line}
 use Rattle.dh_command.specs.Responses.{Response, answer, fault, line}
 use Rattle.dh_command.specs.Statuses.{why_status}
 use Rattle.dh_command.specs.StepsReplies.{AreNamed, steps_response}
 use Rattle.dh_command.specs.Words.{Word, command_of, operand_words, resolves, types}
+use Rattle.dh_files.specs.FileWords.{file_text}
+use Rattle.dh_gen.specs.Generated as generated
+use Rattle.dh_gen.specs.Generated.{list_text}
 use Rattle.dh_imports.specs.declared.outcomes.Blame.{Blame}
 use Rattle.dh_imports.specs.Readings.{Reading, root_reading}
 use Rattle.dh_imports.specs.declared.outcomes.Why.{Why}
@@ -33,10 +37,13 @@ use Rattle.dh_syntax.specs.FaultLines.{decode_fault_line, norm_fault_line, parse
 use Rattle.dh_syntax.specs.declared.faults.ParseFault.TheVariants as parse
 use Rattle.dh_syntax.specs.Expressions.Tree.{Term}
 use Rattle.dh_syntax.specs.Text.Spelling.{ParsesTo}
+use Rattle.dh_top.proofs.EachFound.{EachRecord, each_found}
+use Rattle.dh_top.proofs.Gathering.{fault_is}
 use Rattle.dh_top.specs.Causes as causes
-use Rattle.dh_top.specs.Causes.{Cause, Decides, IsValued, IsCaused, TellsOneLine, has_cause, is_refusal}
-use Rattle.dh_top.specs.Outside.{Outside, Finds, finds, leaves}
-use Rattle.dh_top.specs.Runs.{Input, Output, Gains, Makes, answers, cannot_read, lacks_memory, Delivers, whole, out_failed, err_failed, Runs, IsRead, FindsFor}
+use Rattle.dh_top.specs.Causes.{Cause, RunCause, Decides, FileCause, IsValued, IsCaused, TellsOneLine, TellsRefusal, has_cause, is_refusal}
+use Rattle.dh_top.specs.Generating.{GenSession, no_list, on_list}
+use Rattle.dh_top.specs.Outside.{Outside, IsFound, Shelving, Telling}
+use Rattle.dh_top.specs.Runs.{Input, Output, Gains, Makes, answers, generates, cannot_read, lacks_memory, Delivers, whole, out_failed, err_failed, Runs, IsRead, FindsFor}
 
 abbrev is_memory : Status → Bool
 is_memory status.Memory = true
@@ -124,19 +131,62 @@ caused-is-refused status.Memory h = absurd (true≢false (sym h))
 caused-is-refused status.NoJson h = refl
 caused-is-refused status.Step h = refl
 
-made-caused : (words : List Word) (input : Input) (o : Outside) (r : Record) (w : Response) → Makes words input o r w → IsTrue (has_cause w.status) → IsCaused words input o w.status
-made-caused words input o r w (answers text read f (usage k h u)) n = not-so has_cause w.status status.Usage (ap (λ (x : Response). x.status) u) refl n
-made-caused words input o r w (answers text read f (does c h d)) n = record {
-  command = c;
-  asked = h;
-  text = text;
-  read = subst (λ k. IsRead k text input) h read;
-  found = r;
-  finds = subst (λ k. FindsFor k text o r) h f;
-  cause = (blamed c.verb (operand_words words) text r w d (caused-is-refused w.status n)).3;
-}
-made-caused words input o r w (cannot_read c h rose alone u) n = not-so has_cause w.status status.Read (ap (λ (x : Response). x.status) u) refl n
-made-caused words input o r w (lacks_memory l u) n = not-so has_cause w.status status.Memory (ap (λ (x : Response). x.status) u) refl n
+-- why the first file has no digest that has none
+module _ (s : Status) (n : IsTrue (has_cause s)) where
+  later : {word : Word} {words : List Word} {r : Record} {rs : List Record} (w : Response) → FileAnswer word r w → w.status ≡ status.Ok → FileCause s words rs → FileCause s (word ∷ words) (r ∷ rs)
+  later w (hashes_file d) ok c = causes.later_file w d ok c
+  later w (file_lacks_memory z u) ok c = not-so is_memory status.Memory status.Ok (sym (ap (λ (x : Response). x.status) u) ∙ ok) refl refl
+
+  here : {word : Word} {words : List Word} {r : Record} {rs : List Record} (w : Response) → FileAnswer word r w → w.status ≡ s → FileCause s (word ∷ words) (r ∷ rs)
+  here {word} {words} {r} w (hashes_file d) e =
+      causes.this_file
+      (subst (Cause verb.Hash [] (file_text word) r) e (blamed verb.Hash [] (file_text word) r w d (caused-is-refused w.status (subst (λ t. IsTrue (has_cause t)) (sym e) n))).3)
+  here w (file_lacks_memory z u) e = not-so has_cause s status.Memory (sym e ∙ ap (λ (x : Response). x.status) u) refl n
+
+  file-caused : {words : List Word} {rs : List Record} {ws : List Response} → FileAnswers words rs ws → first_fault ws ≡ s → FileCause s words rs
+  file-caused no_file e = not-so has_cause s status.Ok (sym e) refl n
+  file-caused (a_file {w = w} {ws = ws} a rest) e = elim (fault_is w.status (first_fault ws) s e) [
+    | inl k ↦ later w a k.0 (file-caused rest k.1)
+    | inr k ↦ here w a k
+  ]
+
+all-caused : (v : Verb) (ops : List Word) (text : List ℕ) (rs : List Record) (w : Response) → DoesAll v ops text rs w → IsTrue (has_cause w.status) → RunCause v ops text rs w.status
+all-caused v ops text rs w (on_input r one d) n = causes.by_input r one (blamed v ops text r w d (caused-is-refused w.status n)).3
+all-caused v ops text rs w (on_files ws b a u) n = causes.by_file b (file-caused w.status n a (sym (ap (λ (x : Response). x.status) u)))
+
+-- why the list of generated imports has no digest
+list-caused : (m : ℕ) (r : Record) (asked : ℕ) (w : Response) → GenAnswer m r asked w → IsTrue (has_cause w.status) → Cause verb.Hash [] (list_text m) r w.status
+list-caused m r asked w (counts root digest p d u) n = not-so has_cause w.status status.Ok (ap (λ (x : Response). x.status) u) refl n
+list-caused m r asked w (faults d other) n = (blamed verb.Hash [] (list_text m) r w d (caused-is-refused w.status n)).3
+
+made-caused : (words : List Word) (input : Input) (o : Outside) (rs : List Record) (w : Response) → Makes words input o rs w → IsTrue (has_cause w.status) → IsCaused words input o w.status
+made-caused words input o rs w (answers text read f (usage k h u)) n = not-so has_cause w.status status.Usage (ap (λ (x : Response). x.status) u) refl n
+made-caused words input o rs w (answers text read f (does c h d)) n =
+    inl
+    (record {
+      command = c;
+      asked = h;
+      text = text;
+      read = subst (λ k. IsRead k text input) h read;
+      found = rs;
+      finds = subst (λ k. FindsFor k (operand_words words) text o rs) h f;
+      cause = all-caused c.verb (operand_words words) text rs w d n;
+    })
+made-caused words input o rs w (generates c m r asked h g named one left alone session a) n =
+    inr
+    (record {
+      command = c;
+      asked = h;
+      of_number = g;
+      number = m;
+      named = named;
+      found = r;
+      fetches = asked;
+      session = session;
+      cause = list-caused m r asked w a n;
+    })
+made-caused words input o rs w (cannot_read c h rose alone u) n = not-so has_cause w.status status.Read (ap (λ (x : Response). x.status) u) refl n
+made-caused words input o rs w (lacks_memory l u) n = not-so has_cause w.status status.Memory (ap (λ (x : Response). x.status) u) refl n
 
 pub caused : (words : List Word) (input : Input) (o : Outside) (out err : Output) (s : Status) → Runs words input o out err s → IsTrue (has_cause s) → IsCaused words input o s
 caused words input o out err s run n = by run.delivers
@@ -199,10 +249,15 @@ cause-none v ops text r _ limits (causes.no_rule t places n h k p g) e = absurd 
 cause-none v ops text r _ limits (causes.grows t places n h k p g) e = absurd cc
 
 -- what a run finds for a limit is none either
-found-none : (v : Verb) (text : List ℕ) (o : Outside) (r : Record) → Finds v text o r → LimitsNeedNone r
-found-none v text o r (finds root end pairs steps h p came asks found e k files own) l w q u =
-    let limited = found.limits l w q in absurd (subst (IsLimitOf limited.code) u limited.licensed)
-found-none v text o r (leaves h alone) l w q u = none-some refl (sym (ap (λ x. limit_at x l) h) ∙ q)
+found-none : (told : Telling) (shelved : Shelving) (r : Record) → IsFound told shelved r → LimitsNeedNone r
+found-none told shelved r f l w q u = let limited = f.limits l w q in absurd (subst (IsLimitOf limited.code) u limited.licensed)
+
+nothing-none : LimitsNeedNone nothing_found
+nothing-none l w q u = none-some refl q
+
+list-none : (m : ℕ) (r : Record) (asked : ℕ) → GenSession m r asked → LimitsNeedNone r
+list-none m _ _ (on_list {r = r} session none) = found-none generated.told generated.shelved r session.is_found
+list-none m _ _ no_list = nothing-none
 
 -- ---- what a refusal writes
 
@@ -212,20 +267,50 @@ OneLine w = (told : List ℕ) × (w.out ≡ []) × (w.err ≡ line told) × (w.s
 line-of : (w : Response) (told : List ℕ) (s : Status) → w ≡ fault told s → (s ≡ status.Memory → told ≡ memory_line) → OneLine w
 line-of w told s u h = (told, ap (λ (x : Response). x.out) u, ap (λ (x : Response). x.err) u, λ e. h (sym (ap (λ (x : Response). x.status) u) ∙ e))
 
-made-line : (words : List Word) (input : Input) (o : Outside) (r : Record) (w : Response) → Makes words input o r w → IsTrue (is_refusal w.status) → OneLine w
-made-line words input o r w (answers text read f (usage k h u)) n = line-of w (usage_line k) status.Usage u (λ e. unlike status.Usage refl e)
-made-line words input o r w (answers text read f (does c h d)) n =
-    let (told, p, q, z) = blamed c.verb (operand_words words) text r w d n in
-    let limits = found-none c.verb text o r (subst (λ k. FindsFor k text o r) h f) in (told, p, q, λ e. absurd (cause-none c.verb (operand_words words) text r w.status limits z e))
-made-line words input o r w (cannot_read c h rose alone u) n = line-of w read_line status.Read u (λ e. unlike status.Read refl e)
-made-line words input o r w (lacks_memory l u) n = line-of w memory_line status.Memory u (λ e. refl)
+list-line : (m : ℕ) (r : Record) (asked : ℕ) (w : Response) → LimitsNeedNone r → GenAnswer m r asked w → IsTrue (is_refusal w.status) → OneLine w
+list-line m r asked w limits (counts root digest p d u) n = no-answer w _ u n
+list-line m r asked w limits (faults d other) n =
+    let (told, p, q, z) = blamed verb.Hash [] (list_text m) r w d n in (told, p, q, λ e. absurd (cause-none verb.Hash [] (list_text m) r w.status limits z e))
 
-pub told-line : (words : List Word) (input : Input) (o : Outside) (out err : Output) (s : Status) → Runs words input o out err s → IsTrue (is_refusal s) → TellsOneLine s out err
+-- or the lines of files
+record FileLines (words : List Word) (w : Response) : Type 0 where
+  command : Command
+  asked : command_of words ≡ Ok command
+  of_files : command.verb ≡ verb.Batch
+  answers_are : List Response
+  one_for_each : length answers_are ≡ length (operand_words words)
+  lines : w.out ≡ file_lines (operand_words words) answers_are
+  quiet : w.err ≡ []
+
+as-many : {ops : List Word} {rs : List Record} {ws : List Response} → FileAnswers ops rs ws → length ws ≡ length ops
+as-many no_file = refl
+as-many (a_file a rest) = ap suc (as-many rest)
+
+made-line : (words : List Word) (input : Input) (o : Outside) (rs : List Record) (w : Response) → Makes words input o rs w → IsTrue (is_refusal w.status) → OneLine w ⊎ FileLines words w
+made-line words input o rs w (answers text read f (usage k h u)) n = inl (line-of w (usage_line k) status.Usage u (λ e. unlike status.Usage refl e))
+made-line words input o rs w (answers text read f (does c h (on_input r one d))) n =
+    let (told, p, q, z) = blamed c.verb (operand_words words) text r w d n in
+    let all = each_found LimitsNeedNone nothing-none found-none c.verb (operand_words words) text o rs (subst (λ k. FindsFor k (operand_words words) text o rs) h f) in
+    let limits = (subst (EachRecord LimitsNeedNone) one all).0 in
+    inl (told, p, q, λ e. absurd (cause-none c.verb (operand_words words) text r w.status limits z e))
+made-line words input o rs w (answers text read f (does c h (on_files ws b a u))) n =
+    inr (record { command = c; asked = h; of_files = b; answers_are = ws; one_for_each = as-many a; lines = ap (λ (x : Response). x.out) u; quiet = ap (λ (x : Response). x.err) u })
+made-line words input o rs w (generates c m r asked h g named one left alone session a) n = inl (list-line m r asked w (list-none m r asked session) a n)
+made-line words input o rs w (cannot_read c h rose alone u) n = inl (line-of w read_line status.Read u (λ e. unlike status.Read refl e))
+made-line words input o rs w (lacks_memory l u) n = inl (line-of w memory_line status.Memory u (λ e. refl))
+
+pub told-line : (words : List Word) (input : Input) (o : Outside) (out err : Output) (s : Status) → Runs words input o out err s → IsTrue (is_refusal s) → TellsRefusal words s out err
 told-line words input o out err s run n = by run.delivers
   where
-    by : Delivers run.written out err s → TellsOneLine s out err
-    by (whole g h e) =
-        let (told, p, q, m) = made-line words input o run.found run.written run.makes (subst (λ t. IsTrue (is_refusal t)) e n) in
-        (subst (Gains out) p g, (told, λ k. m (sym e ∙ k), subst (Gains err) q h))
+    one : (w : Response) → Gains out w.out → Gains err w.err → s ≡ w.status → OneLine w → TellsOneLine s out err
+    one w g h e (told, p, q, m) = (subst (Gains out) p g, (told, λ k. m (sym e ∙ k), subst (Gains err) q h))
+
+    told : (w : Response) → Gains out w.out → Gains err w.err → s ≡ w.status → OneLine w ⊎ FileLines words w → TellsRefusal words s out err
+    told w g h e (inl line) = inl (one w g h e line)
+    told w g h e (inr f) =
+        inr (record { command = f.command; asked = f.asked; of_files = f.of_files; answers = f.answers_are; one_for_each = f.one_for_each; lines = subst (Gains out) f.lines g; quiet = subst (Gains err) f.quiet h })
+
+    by : Delivers run.written out err s → TellsRefusal words s out err
+    by (whole g h e) = told run.written g h e (made-line words input o run.found run.written run.makes (subst (λ t. IsTrue (is_refusal t)) e n))
     by (out_failed g h e) = not-so is_refusal s status.Write e refl n
     by (err_failed g h e) = not-so is_refusal s status.Write e refl n

@@ -11,9 +11,12 @@ use Rattle.dh_literals.proofs.NumbersRead.{decimal_digit, no_plus}
 use Rattle.dh_command.specs.declared.commands.Command.{Command}
 use Rattle.dh_command.specs.declared.verbs.Verb.{Verb}
 use Rattle.dh_syntax.specs.Limits.{most_workers, default_workers}
+use lib.Dec.{eqb}
+use lib.Pointwise.{pointwise}
+use Rattle.dh_syntax.proofs.NativeTests.{bytes_eq-pointwise}
 use Rattle.dh_syntax.proofs.Numbers.{bytes_eq-true}
 use Rattle.dh_syntax.specs.Expressions.Numbers.{bytes_eq}
-use Rattle.dh_command.specs.Words.{Word, named, verb_of, is_count, workers_of, operands, options}
+use Rattle.dh_command.specs.Words.{Word, named, verb_of, is_count, workers_of, command_of, operands, options}
 
 -- a word that is none of these
 abbrev IsNone : List ℕ → List (Word × Verb) → Type 0
@@ -32,10 +35,26 @@ unnamed w [] n = refl
 unnamed w (p ∷ ps) n = passed w p (bytes_eq p.0 w) (find (λ p. bytes_eq p.0 w) ps) refl n.0 (unnamed w ps n.1)
 
 -- a word that names no command
-pub verb_of-none : (w : List ℕ) → (w ≡ codes "encode" → ⊥) → (w ≡ codes "decode" → ⊥) → (w ≡ codes "resolve" → ⊥) → (w ≡ codes "type" → ⊥) → (w ≡ codes "normalize" → ⊥) → (w ≡ codes "hash" → ⊥) → (w ≡ codes "to-json" → ⊥) → (w ≡ codes "freeze" → ⊥) → (w ≡ codes "steps" → ⊥) → (w ≡ codes "explain" → ⊥) → (w ≡ codes "help" → ⊥) → (w ≡ codes "--help" → ⊥) → (w ≡ codes "-h" → ⊥) → (w ≡ codes "--version" → ⊥)
+pub verb_of-none : (w : List ℕ) → (w ≡ codes "encode" → ⊥) → (w ≡ codes "decode" → ⊥) → (w ≡ codes "resolve" → ⊥) → (w ≡ codes "type" → ⊥) → (w ≡ codes "normalize" → ⊥) → (w ≡ codes "hash" → ⊥) → (w ≡ codes "to-json" → ⊥) → (w ≡ codes "freeze" → ⊥) → (w ≡ codes "batch" → ⊥) → (w ≡ codes "steps" → ⊥) → (w ≡ codes "gen" → ⊥) → (w ≡ codes "explain" → ⊥) → (w ≡ codes "help" → ⊥) → (w ≡ codes "--help" → ⊥) → (w ≡ codes "-h" → ⊥) → (w ≡ codes "--version" → ⊥)
     → None ≡ verb_of w
-verb_of-none w k1 k2 k3 k4 k5 k6 k7 k8 k9 k10 k11 k12 k13 k14 =
-    sym (unnamed w named (k1, (k2, (k3, (k4, (k5, (k6, (k7, (k8, (k9, (k10, (k11, (k12, (k13, (k14, tt)))))))))))))))
+verb_of-none w k1 k2 k3 k4 k5 k6 k7 k8 k9 k10 k11 k12 k13 k14 k15 k16 =
+    sym (unnamed w named (k1, (k2, (k3, (k4, (k5, (k6, (k7, (k8, (k9, (k10, (k11, (k12, (k13, (k14, (k15, (k16, tt)))))))))))))))))
+
+-- a word that names one
+pub verb_of-some : (w k : List ℕ) (v : Verb) (b : Bool) → b ≡ pointwise eqb w k → b ≡ true → verb_of k ≡ Some v → Some v ≡ verb_of w
+verb_of-some w k v b e t h = sym (ap verb_of (bytes_eq-true w k (bytes_eq-pointwise w k ∙ (sym e ∙ t))) ∙ h)
+
+-- the command of words, by that of the first of them
+abbrev by_verb : List Word → Option Verb → Result Command ℕ
+by_verb us o = elim o [ None ↦ Err 1 | Some v ↦ options v us ]
+
+pub unnamed_word : (ws : List Word) (w : Word) (us : List Word) (o : Option Verb) → ws ≡ w ∷ us → o ≡ verb_of w → o ≡ None → command_of ws ≡ Err 1
+unnamed_word ws w us o e n h = ap command_of e ∙ ap (by_verb us) (sym n ∙ h)
+
+pub named_word : (ws : List Word) (w : Word) (us : List Word) (o : Option Verb) (v : Verb) (r : Result Command ℕ) → ws ≡ w ∷ us → o ≡ verb_of w → o ≡ Some v
+    → MatchResult r (λ c. options v us ≡ Ok c) (λ k. options v us ≡ Err k) → MatchResult r (λ c. command_of ws ≡ Ok c) (λ k. command_of ws ≡ Err k)
+named_word ws w us o v (Ok c) e n h p = ap command_of e ∙ (ap (by_verb us) (sym n ∙ h) ∙ p)
+named_word ws w us o v (Err k) e n h p = ap command_of e ∙ (ap (by_verb us) (sym n ∙ h) ∙ p)
 
 -- ---- numbers of workers
 

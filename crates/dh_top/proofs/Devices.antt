@@ -31,8 +31,8 @@ use Rattle.dh_imports.specs.Replay.{bad}
 use Rattle.dh_imports.specs.RootEnds.{EndsBy}
 use Rattle.dh_laws.proofs.KeyOrder.{none-some, some-equal}
 use Rattle.dh_session.specs.Works.{AtLast}
-use Rattle.dh_table.specs.Calls.{has_failed, is_failed}
-use Rattle.dh_top.specs.Outside.{Outside, Finds, finds, leaves, IsFound, failures, nothing_found, total}
+use Rattle.dh_record.specs.Brought.{has_failed, is_failed}
+use Rattle.dh_top.specs.Outside.{Outside, Finds, finds, finds_each, leaves, all_failures, failures, total}
 use Rattle.dh_top.specs.Runs.{DeskFailed, Output, Delivers, whole, out_failed, err_failed}
 
 -- ---- statuses by their numbers
@@ -153,9 +153,11 @@ rose : (before after : List ℕ) (n : ℕ) → 0 < n → Any AtLast after ⊎ (n
 rose before after n some (inl h) = inl h
 rose before after n some (inr h) = inr (omega (arith, some, h))
 
-pub desk_failed : (v : Verb) (text : List ℕ) (o : Outside) (r : Record) → Finds v text o r → 0 < failures r → DeskFailed o
-desk_failed v text o r (finds root e pairs steps t p s a f by k files own) some = rose o.faults_before o.faults_after (failures r) some f.faults
-desk_failed v text o r (leaves none alone) some = absurd (let z : failures r ≡ 0 = ap failures none in omega (arith, z, some))
+pub desk_failed : (v : Verb) (ops : List Word) (text : List ℕ) (o : Outside) (rs : List Record) → Finds v ops text o rs → 0 < all_failures rs → DeskFailed o
+desk_failed v ops text o rs (finds r n pairs t one s shown) some =
+    rose o.faults_before o.faults_after (all_failures rs) some shown.failed
+desk_failed v ops text o rs (finds_each asks pairs b s shown) some = rose o.faults_before o.faults_after (all_failures rs) some shown.failed
+desk_failed v ops text o rs (leaves none alone) some = absurd (let z : all_failures rs ≡ 0 = ap all_failures none in omega (arith, z, some))
 
 pub told_device : (w : Response) (o : Outside) (out err : Output) (s : Status) → (w.status ≡ status.Desk → DeskFailed o) → Delivers w out err s → s ≡ status.Desk → DeskFailed o
 told_device w o out err s d (whole g h e) is = d (sym e ∙ is)

@@ -9,7 +9,8 @@ use Rattle.dh_syntax.specs.declared.locations.Digest.{Digest}
 use Rattle.dh_imports.specs.Machine.{IsAmong}
 use Rattle.dh_imports.specs.Replay.{RootEnd, ready, bad, looped, too_many, root_end}
 use Rattle.dh_syntax.specs.Limits.{most_entry_bytes}
-use Rattle.dh_table.specs.Kept.{IsKeeping, pair_of}
+use Rattle.dh_table.specs.Kept.{IsKeeping}
+use Rattle.dh_record.specs.Kept.{pair_of}
 use Rattle.dh_table.specs.Shown.{Shown}
 use Rattle.dh_table.specs.States.{state_of}
 use Rattle.dh_session.specs.Works.{AtLast}
@@ -20,17 +21,17 @@ none_then : (ps : List Pair) {kept qs : List Pair} → SomeOf kept qs → SomeOf
 none_then [] s = s
 none_then (p ∷ ps) s = without_this (none_then ps s)
 
-some_both : {k l ps qs : List Pair} → SomeOf k ps → SomeOf l qs → SomeOf (k ++ l) (ps ++ qs)
+pub some_both : {k l ps qs : List Pair} → SomeOf k ps → SomeOf l qs → SomeOf (k ++ l) (ps ++ qs)
 some_both (none_of {pairs = ps}) s = none_then ps s
 some_both (with_this r) s = with_this (some_both r s)
 some_both (without_this r) s = without_this (some_both r s)
 
-some_more : {k ps : List Pair} (qs : List Pair) → SomeOf k ps → SomeOf k (ps ++ qs)
+pub some_more : {k ps : List Pair} (qs : List Pair) → SomeOf k ps → SomeOf k (ps ++ qs)
 some_more qs none_of = none_of
 some_more qs (with_this r) = with_this (some_more qs r)
 some_more qs (without_this r) = without_this (some_more qs r)
 
-filed_both : (a b c : Option (List Pair)) (k l : List Pair) → b ≡ option_map (λ old. old ++ k) a → c ≡ option_map (λ old. old ++ l) b
+pub filed_both : (a b c : Option (List Pair)) (k l : List Pair) → b ≡ option_map (λ old. old ++ k) a → c ≡ option_map (λ old. old ++ l) b
     → c ≡ option_map (λ old. old ++ (k ++ l)) a
 filed_both None b c k l p q = q ∙ ap (option_map (λ old. old ++ l)) p
 filed_both (Some x) b c k l p q = q ∙ ap (option_map (λ old. old ++ l)) p ∙ ap (λ z. Some z) (append_assoc x k l)

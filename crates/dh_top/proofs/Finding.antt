@@ -24,28 +24,29 @@ use Rattle.dh_import_laws.proofs.OnceRecorded.{texts_are_recorded_once, looks_ar
 use Rattle.dh_ports.specs.Desks.{Tells, shown}
 use Rattle.dh_ports.specs.declared.worlds.Got.{Got}
 use Rattle.dh_ports.specs.declared.worlds.Got.TheVariants as gots
-use Rattle.dh_table.proofs.Logs.{reverse-cons}
-use Rattle.dh_table.specs.declared.entries.Seen as program_seen
-use Rattle.dh_table.specs.declared.entries.Seen.TheVariants as seens
-use Rattle.dh_table.specs.declared.news.Noted as program
-use Rattle.dh_table.specs.declared.news.Noted.TheVariants as noteds
-use Rattle.dh_table.specs.declared.texts.Look.{Look}
-use Rattle.dh_table.specs.declared.texts.Text.{Text}
-use Rattle.dh_table.specs.Brought.{IsTold, IsShelved, AreTold, AreShelved}
+use Rattle.dh_record.proofs.Latest.{reverse-cons}
+use Rattle.dh_record.specs.declared.entries.Seen as program_seen
+use Rattle.dh_record.specs.declared.entries.Seen.TheVariants as seens
+use Rattle.dh_record.specs.declared.news.Noted as program
+use Rattle.dh_record.specs.declared.news.Noted.TheVariants as noteds
+use Rattle.dh_record.specs.declared.rows.recorded.Look.{Look}
+use Rattle.dh_record.specs.declared.rows.recorded.Text.{Text}
+use Rattle.dh_record.specs.Brought.{IsTold, IsShelved, AreTold, AreShelved}
 use Rattle.dh_table.specs.Calls.{failures}
 use Rattle.dh_table.specs.Shown.{Shown}
-use Rattle.dh_table.specs.States.{IsReplayed, step_by, noted_by, scanned, seen_by, text_of, look_of, record_of, state_of}
+use Rattle.dh_table.specs.States.{IsReplayed, step_by, record_of, state_of}
+use Rattle.dh_record.specs.Rows.{noted_by, scanned, seen_by, text_of, look_of}
 use Rattle.dh_session.specs.Ended.{AsksAll, FailsAll, NoneFell, none_left, more_left}
 use Rattle.dh_shared.specs.Counting as counting
 use Rattle.dh_syntax.specs.Expressions.Bridge.{term}
 use Rattle.dh_imports.specs.Machine as machine
 use Rattle.dh_imports.specs.Replay as replay
-use Rattle.dh_table.specs.declared.steps.Kind.TheVariants as kinds
+use Rattle.dh_record.specs.declared.kinds.Kind.TheVariants as kinds
 use Rattle.dh_table.specs.declared.steps.Step.{Step}
 use Rattle.dh_table.specs.declared.steps.Step.TheVariants as steps
-use Rattle.dh_table.specs.declared.texts.Entrant.{Entrant}
+use Rattle.dh_record.specs.declared.rows.recorded.Entrant.{Entrant}
 use Rattle.dh_session.specs.Works.{AtLast}
-use Rattle.dh_top.specs.Outside.{Outside, Pair, outside, got_of, IsTextTold, IsSeenOf, IsLookTold, IsLimitLicensed, IsFound, is_fetch_claim, total}
+use Rattle.dh_top.specs.Outside.{Pair, Shelving, Telling, got_of, IsTextTold, IsSeenOf, IsLookTold, IsLimitLicensed, IsFound, is_fetch_claim, total}
 
 -- ---- what is recorded is what was told
 
@@ -83,11 +84,11 @@ seen_told d (Some e) seens.Failed h = tt
 
 -- ---- counts of faults
 
-total_map : {D : Type 0} (f : D → ℕ) (ds : List D) → total (map f ds) ≡ sum_by f ds
+pub total_map : {D : Type 0} (f : D → ℕ) (ds : List D) → total (map f ds) ≡ sum_by f ds
 total_map f [] = refl
 total_map f (d ∷ ds) = sum_by-cons (λ n. n) (f d) (map f ds) ∙ (ap (λ n. f d + n) (total_map f ds) ∙ sym (sum_by-cons f d ds))
 
-last_map : {D : Type 0} (f : D → ℕ) (ds : List D) → Any (λ d. AtLast (f d)) ds → Any AtLast (map f ds)
+pub last_map : {D : Type 0} (f : D → ℕ) (ds : List D) → Any (λ d. AtLast (f d)) ds → Any AtLast (map f ds)
 last_map f [] (i, x, lt, is, p) = absurd (omega (arith, lt))
 last_map f (d ∷ ds) (zero, x, lt, is, p) = (0, f d, omega arith, refl, subst (λ y. AtLast (f y)) (sym is) p)
 last_map f (d ∷ ds) (suc i, x, lt, is, p) =
@@ -127,24 +128,18 @@ LimitAt s k w = (e : Term) × (allow : Option (List ℕ)) × (stage_of s k ≡ H
 licensed_at : (s : State) (k : Key) (w : Why) → AreOutcomes s.recorded (outcome_of s) → LimitAt s k w → IsLimitLicensed s.recorded k w
 licensed_at s k w asks (e, allow, due, licensed, known) = record { ask = outcome_of s; asks = asks; code = e; allow = allow; due = due; licensed = licensed }
 
-pub found_by : (told : Loc → Option Got) (shelved : Digest → Option (Option (List ℕ))) {D : Type 0} (asked faults : D → ℕ) (filed : D → Option (List Pair)) (before mid after : List D) (t : Shown)
-    → AreTold told t.texts → AreShelved shelved t.looks → IsReplayed t → FailsAll faults before mid t → NoneFell (map faults mid) (map faults after)
-    → IsFound (outside told shelved asked faults filed before after) (record_of t)
-found_by told shelved asked faults filed before mid after t texts looks r fails rise = record {
+pub found_by : (told : Telling) (shelved : Shelving) (t : Shown) → AreTold told t.texts → AreShelved shelved t.looks → IsReplayed t → IsFound told shelved (record_of t)
+found_by told shelved t texts looks r = record {
   one_text = λ l. subst (λ s. count_by (λ (x : Loc × Noted). loc_eq x.0 l) s.recorded.texts ≤ 1) r.state_is (texts_are_recorded_once (state_of t).root r.events l r.lawful);
   one_look = λ d. subst (λ s. count_by (λ (x : Digest × Seen). digest_eq x.0 d) s.recorded.looks ≤ 1) r.state_is (looks_are_recorded_once (state_of t).root r.events d r.lawful);
-  texts = all_recorded text_of (λ (x : Text). IsTold (told x.loc) x.got) (IsTextTold o) (λ x h. noted_told (told x.loc) x.got (scanned x.read) h) t.texts texts;
-  looks = all_recorded look_of (λ (x : Look). IsShelved x.digest (shelved x.digest) x.look) (IsLookTold o) (λ x h. seen_told x.digest (shelved x.digest) x.look h) t.looks looks;
+  texts = all_recorded text_of (λ (x : Text). IsTold (told x.loc) x.got) (IsTextTold told) (λ x h. noted_told (told x.loc) x.got (scanned x.read) h) t.texts texts;
+  looks = all_recorded look_of (λ (x : Look). IsShelved x.digest (shelved x.digest) x.look) (IsLookTold shelved) (λ x h. seen_told x.digest (shelved x.digest) x.look h) t.looks looks;
   parsed = λ l bytes allow p h.
       texts_are_parsed (state_of t).root r.events l (found.Found bytes allow p) r.lawful (subst (λ s. text_at s.recorded l ≡ Some (found.Found bytes allow p)) (sym r.state_is) h);
   good = λ d look h. entries_are_good (state_of t).root r.events d look r.lawful (subst (λ s. look_at s.recorded d ≡ Some look) (sym r.state_is) h);
   limits = λ k w h. limit_of_key k w (limits_are_licensed (state_of t).root r.events k w r.lawful (subst (λ s. limit_at s.recorded k ≡ Some w) (sym r.state_is) h));
-  faults = fails_on (failures (state_of t)) (map faults before) (map faults mid) (map faults after) rise (mapped faults (failures (state_of t)) before mid fails);
 }
   where
-    o : Outside
-    o = outside told shelved asked faults filed before after
-
     resolved : (k : Key) (x : Outcome) → outcome_of (state_of t) k ≡ Some x → Resolves (record_of t) k x
     resolved k x h =
         subst (λ s. Resolves s.recorded k x) r.state_is
@@ -152,6 +147,11 @@ found_by told shelved asked faults filed before mid after t texts looks r fails 
 
     limit_of_key : (k : Key) (w : Why) → LimitAt (after_all (state_of t).root r.events) k w → IsLimitLicensed (record_of t) k w
     limit_of_key k w l = licensed_at (state_of t) k w resolved (subst (λ s. LimitAt s k w) r.state_is l)
+
+-- failures of calls before entries are kept, as faults after that
+pub failed_by : {D : Type 0} (faults : D → ℕ) (n : ℕ) (before mid after : List D) → Any (λ d. AtLast (faults d)) mid ⊎ (n + sum_by faults before ≤ sum_by faults mid)
+    → NoneFell (map faults mid) (map faults after) → Any AtLast (map faults after) ⊎ (n + total (map faults before) ≤ total (map faults after))
+failed_by faults n before mid after fails rise = fails_on n (map faults before) (map faults mid) (map faults after) rise (mapped faults n before mid fails)
 
 -- ---- how it was found
 
@@ -198,7 +198,7 @@ counts_events root (e ∷ es) =
     ∙ omega (arith, counts_events root es, sum_by-cons (λ s. cond (fetch_step s) 1 0) last [], sum_by-cons (λ x. cond (is_fetch_claim x) 1 0) e es, ap {B = ℕ} (λ b. cond b 1 0) (event_same (after_all root es).drawn e))
 
 -- the fetches that were claimed, in the table's history and in the machine's
-claims_same : (t : Shown) (r : IsReplayed t) → count_by counting.is_fetch_claim t.history ≡ count_by is_fetch_claim r.events
+pub claims_same : (t : Shown) (r : IsReplayed t) → count_by counting.is_fetch_claim t.history ≡ count_by is_fetch_claim r.events
 claims_same t r =
     sym (counts_mapped (step_by t.keys) fetch_step counting.is_fetch_claim (step_same t.keys) t.history)
     ∙ (ap (count_by fetch_step) (sym r.history_is) ∙ counts_events (term t.root.expr) r.events)

@@ -1,6 +1,6 @@
 -- Replies of the commands that resolve imports.
 use Rattle.std.proofs.Common.{◌≡◌, ◌⊎◌, inl, inr, ℕ, ◌+◌, ◌≤◌, ◌<◌, List, [], ◌∷◌, ◌++◌, map, length, Option, Some, None, Result, Ok, Err, IfOk, IfSome, Bool, true, false, true≢false, refl, sym, ap, ◌∙◌, subst, arith}
-use Rattle.std.specs.Prelude.{IsTrue, OnOk, OnErr, Any, option_map, sum_by}
+use Rattle.std.specs.Prelude.{IsTrue, OnOk, OnErr, Any, count_by, option_map, sum_by}
 use Rattle.std.specs.declared.alloc.AllocError.{AllocError}
 use Rattle.std.proofs.lemmas.List.Sums.{sum_by-cons}
 use Rattle.dh_syntax.specs.declared.faults.Ill.{Ill}
@@ -15,7 +15,7 @@ use Rattle.dh_imports.specs.declared.outcomes.Why.{Why}
 use Rattle.dh_imports.specs.declared.outcomes.Why.TheVariants as whys
 use Rattle.dh_command.specs.declared.statuses.Status.TheVariants as status
 use Rattle.dh_command.specs.declared.verbs.Verb.{Verb}
-use Rattle.dh_command.specs.Answer.{Does, ResolvedAnswer, FaultAnswer, IsIllLine, at_fault, why_alone, with_place, overfull, spells, spells_none, too_many_keys}
+use Rattle.dh_command.specs.Answer.{Does, ResolvedAnswer, FaultAnswer, IsIllLine, at_fault, why_alone, with_place, overfull, spells, spells_none, nothing_found, on_input, too_many_keys}
 use Rattle.dh_command.specs.Responses.{Response, fault, misspelt}
 use Rattle.dh_imports.specs.ImportFaults.{ill_of, in_item, why_line}
 use Rattle.dh_command.specs.Statuses.{why_status}
@@ -39,19 +39,20 @@ use Rattle.dh_demand.specs.Scans.{text_key}
 use Rattle.dh_ports.specs.declared.mem_desks.CacheEntry.{CacheEntry}
 use Rattle.dh_ports.specs.declared.worlds.Got.{Got}
 use Rattle.dh_table.specs.declared.roots.Ended.{Ended}
-use Rattle.dh_table.specs.Brought.{AreTold, AreShelved}
-use Rattle.dh_table.specs.Kept.{IsKeeping, pair_of}
+use Rattle.dh_record.specs.Brought.{AreTold, AreShelved}
+use Rattle.dh_table.specs.Kept.{IsKeeping}
+use Rattle.dh_record.specs.Kept.{pair_of}
 use Rattle.dh_table.specs.Shown.{Shown}
 use Rattle.dh_table.specs.States.{IsReplayed, record_of, state_of}
 use Rattle.dh_session.specs.Ended.{AsksAll, FailsAll, NoneFell, none_left, more_left}
 use Rattle.dh_session.specs.Works.{AtLast}
 use Rattle.dh_top.specs.declared.replies.Reply.{Reply}
-use Rattle.dh_top.specs.Outside.{Outside, Pair, outside, first_of, AtFirst, at_first, FilesAll, FilesSome, Finds, finds, leaves, AsksFor, FilesPart, files_none, files_some, IsFound, IsHistory, IsLeftAlone, KeepsBy, failures, nothing_found, total}
+use Rattle.dh_top.specs.Outside.{Outside, Pair, Shelving, Telling, outside, first_of, AtFirst, at_first, FilesAll, FilesSome, Finds, finds, leaves, FilesPart, files_none, files_some, IsHistory, IsLeftAlone, IsShown, IsShownInPart, KeepsBy, Session, all_failures, failures, is_fetch_claim, total}
 use Rattle.dh_top.specs.Replies.{written, Answers, IsClosed, TellsPlace}
 use Rattle.dh_top.proofs.Closing.{WalkedTo, walked}
 use Rattle.dh_top.proofs.Devices.{failed_found, other_statuses, resolved_device}
 use Rattle.dh_top.proofs.RunLaws.{one_root_end}
-use Rattle.dh_top.proofs.Finding.{asks_by, none_fell_itself, rise_last, mapped, found_by}
+use Rattle.dh_top.proofs.Finding.{asks_by, failed_by, none_fell_itself, rise_last, mapped, found_by}
 use Rattle.dh_top.proofs.TypedReplies.{line_told}
 
 -- ---- a fault that decides
@@ -142,7 +143,7 @@ keeps_by t e pairs is k = keeps_at t (root_end (state_of t)) e pairs is k
 abbrev pub Keeping : {D : Type 0} → (D → ℕ) → (D → D → Type 0) → List D → List D → Type 0
 Keeping faults P mid after = AtFirst (λ d e. (faults d ≤ faults e) × P d e) mid after
 
-rises : {D : Type 0} (faults : D → ℕ) {P : D → D → Type 0} {mid after : List D} → Keeping faults P mid after → NoneFell (map faults mid) (map faults after)
+pub rises : {D : Type 0} (faults : D → ℕ) {P : D → D → Type 0} {mid after : List D} → Keeping faults P mid after → NoneFell (map faults mid) (map faults after)
 rises faults (at_first {ds = ds} h) = more_left h.0 (none_fell_itself (map faults ds))
 
 -- the first counts and what is filed, from the run to the keeping
@@ -150,11 +151,11 @@ more_before : (f g h k : ℕ) (n : ℕ) → f ≤ g → AtLast h ⊎ (n + g ≤ 
 more_before f g h k n up (inl l) = inl l
 more_before f g h k n up (inr l) = inr (omega (arith, up, l))
 
-first_fell : (ms ns : List ℕ) → NoneFell ms ns → first_of 0 ms ≤ first_of 0 ns
+pub first_fell : (ms ns : List ℕ) → NoneFell ms ns → first_of 0 ms ≤ first_of 0 ns
 first_fell ms ns none_left = omega arith
 first_fell ms ns (more_left h r) = h
 
-all_at_first : {D : Type 0} (faults : D → ℕ) (filed : D → Option (List Pair)) (pairs : List Pair) (before mid after : List D) → NoneFell (map faults before) (map faults mid)
+pub all_at_first : {D : Type 0} (faults : D → ℕ) (filed : D → Option (List Pair)) (pairs : List Pair) (before mid after : List D) → NoneFell (map faults before) (map faults mid)
     → map filed mid ≡ map filed before → Keeping faults (λ d e. FilesAll (faults d) (faults e) (filed d) (filed e) pairs) mid after
     → FilesAll (first_of 0 (map faults before)) (first_of 0 (map faults after)) (first_of None (map filed before)) (first_of None (map filed after)) pairs
 all_at_first faults filed pairs before mid after fell same (at_first {d = d} {d' = e} h) = record {
@@ -173,7 +174,7 @@ own_faults n p k f g before rest up (inl last) few = inl (rise_last (more_left u
 own_faults n p k f g before rest up (inr sums) (inl last) = inl (0, g, omega arith, refl, last)
 own_faults n p k f g before rest up (inr sums) (inr few) = inr (omega (arith, sums, few, sum_by-cons (λ n. n) f rest, sum_by-cons (λ n. n) g rest))
 
-all_faults : {D : Type 0} (faults : D → ℕ) (filed : D → Option (List Pair)) (n : ℕ) (pairs : List Pair) (before mid after : List D) (fell : NoneFell (map faults before) (map faults mid))
+pub all_faults : {D : Type 0} (faults : D → ℕ) (filed : D → Option (List Pair)) (n : ℕ) (pairs : List Pair) (before mid after : List D) (fell : NoneFell (map faults before) (map faults mid))
     (same : map filed mid ≡ map filed before) (k : Keeping faults (λ d e. FilesAll (faults d) (faults e) (filed d) (filed e) pairs) mid after)
     → Any (λ d. AtLast (faults d)) mid ⊎ (n + sum_by faults before ≤ sum_by faults mid)
     → Any AtLast (map faults after) ⊎ (n + length pairs + total (map faults before) ≤ length (all_at_first faults filed pairs before mid after fell same k).kept + total (map faults after))
@@ -181,14 +182,22 @@ unfolding all_at_first
 all_faults faults filed n pairs before mid after fell same (at_first {d = d} {d' = e} {ds = ds} h) sums =
     own_faults n (length pairs) (length h.1.kept) (faults d) (faults e) (map faults before) (map faults ds) h.0 (mapped faults n before (d ∷ ds) sums) h.1.few
 
-part_at_first : {D : Type 0} (faults : D → ℕ) (filed : D → Option (List Pair)) (pairs : List Pair) (before mid after : List D)
+pub part_at_first : {D : Type 0} (faults : D → ℕ) (filed : D → Option (List Pair)) (pairs : List Pair) (before mid after : List D)
     → map filed mid ≡ map filed before → Keeping faults (λ d e. (kept : List Pair) × FilesSome (filed d) (filed e) pairs kept) mid after
     → (kept : List Pair) × FilesSome (first_of None (map filed before)) (first_of None (map filed after)) pairs kept
 part_at_first faults filed pairs before mid after same (at_first {d = d} {d' = e} h) =
     (h.1.0, record { some = h.1.1.some; filed_is = h.1.1.filed_is ∙ ap (λ a. option_map (λ old. old ++ h.1.0) a) (ap (first_of None) same) })
 
+-- a record alone has its own failures
+with_none : {A : Type 0} (n b m : ℕ) → A ⊎ (n + b ≤ m) → A ⊎ (n + 0 + b ≤ m)
+with_none n b m (inl last) = inl last
+with_none n b m (inr sums) = inr (omega (arith, sums))
+
+and_none : (n : ℕ) → 0 < n → 0 < n + 0
+and_none n some = omega (arith, some)
+
 -- What is known of a run that resolved this root over these desks, before anything is kept.
-pub record IsResolved (told : Loc → Option Got) (shelved : Digest → Option (Option (List ℕ))) {D : Type 0} (asked faults : D → ℕ) (filed : D → Option (List Pair)) (before mid : List D)
+pub record IsResolved (told : Telling) (shelved : Shelving) {D : Type 0} (asked faults : D → ℕ) (filed : D → Option (List Pair)) (before mid : List D)
     (root : Term) (t : Shown) (ended : Ended) (pairs : List Pair) : Type 0 where
   pub root_is : (state_of t).root ≡ root
   pub texts : AreTold told t.texts
@@ -201,7 +210,7 @@ pub record IsResolved (told : Loc → Option Got) (shelved : Digest → Option (
   pub closed : IsClosed t ended
   pub keeps : IsKeeping (state_of t) (root_end (state_of t)) pairs
 
-module _ (told : Loc → Option Got) (shelved : Digest → Option (Option (List ℕ))) {D : Type 0} (asked faults : D → ℕ) (filed : D → Option (List Pair)) (before mid after : List D)
+module _ (told : Telling) (shelved : Shelving) {D : Type 0} (asked faults : D → ℕ) (filed : D → Option (List Pair)) (before mid after : List D)
     (v : Verb) (text : List ℕ) (root : Term) (t : Shown) (ended : Ended) (pairs : List Pair)
     (s : IsResolved told shelved asked faults filed before mid root t ended pairs) (asks_same : map asked after ≡ map asked mid) (takes : IsTrue (does_resolve v)) (spelled : ParsesTo text (Ok root)) where
   by_root : EndsBy (record_of t) root s.closed.end
@@ -216,13 +225,44 @@ module _ (told : Loc → Option Got) (shelved : Digest → Option (Option (List 
     record_is = subst (λ r. (after_all r s.replayed.events).recorded ≡ record_of t) s.root_is (ap (λ z. z.recorded) s.replayed.state_is);
   }
 
-  asked_for : AsksFor (outside told shelved asked faults filed before after) s.replayed.events
-  asked_for = asks_by asked before mid after t s.replayed s.asks asks_same
+  -- what its session found, and how
+  pub the_session : Session told shelved text (record_of t) (count_by is_fetch_claim s.replayed.events) pairs
+  the_session = record {
+    root = root;
+    end = s.closed.end;
+    steps = s.replayed.events;
+    spelled = spelled;
+    history = came;
+    claimed = refl;
+    is_found = found_by told shelved t s.texts s.looks s.replayed;
+    ends = by_root;
+    keeps = kept_by;
+  }
 
-  found_here : {P : D → D → Type 0} → Keeping faults P mid after → IsFound (outside told shelved asked faults filed before after) (record_of t)
-  found_here k = found_by told shelved asked faults filed before mid after t s.texts s.looks s.replayed s.fails (rises faults k)
+  fails_alone : Any (λ d. AtLast (faults d)) mid ⊎ (all_failures (record_of t ∷ []) + sum_by faults before ≤ sum_by faults mid)
+  fails_alone = with_none (failures (record_of t)) (sum_by faults before) (sum_by faults mid) s.fails
 
-  failure_found : (b : Blame) → EndsBy (record_of t) (state_of t).root (bad b) → b.why ≡ whys.Failed → 0 < failures (record_of t)
+  shown_by : Keeping faults (λ d e. FilesAll (faults d) (faults e) (filed d) (filed e) pairs) mid after
+      → IsShown (outside told shelved asked faults filed before after) (record_of t ∷ []) (Some (count_by is_fetch_claim s.replayed.events)) pairs
+  shown_by k = record {
+    asked = asks_by asked before mid after t s.replayed s.asks asks_same;
+    failed = failed_by faults (all_failures (record_of t ∷ [])) before mid after fails_alone (rises faults k);
+    files = all_at_first faults filed pairs before mid after s.fell s.filed_is k;
+    faults = all_faults faults filed (all_failures (record_of t ∷ [])) pairs before mid after s.fell s.filed_is k fails_alone;
+  }
+
+  shown_in_part : Keeping faults (λ d e. (kept : List Pair) × FilesSome (filed d) (filed e) pairs kept) mid after
+      → IsShownInPart (outside told shelved asked faults filed before after) (record_of t ∷ []) (Some (count_by is_fetch_claim s.replayed.events)) pairs
+  shown_in_part k =
+      let part = part_at_first faults filed pairs before mid after s.filed_is k in
+      record {
+        asked = asks_by asked before mid after t s.replayed s.asks asks_same;
+        failed = failed_by faults (all_failures (record_of t ∷ [])) before mid after fails_alone (rises faults k);
+        kept = part.0;
+        files = part.1;
+      }
+
+  pub failure_found : (b : Blame) → EndsBy (record_of t) (state_of t).root (bad b) → b.why ≡ whys.Failed → 0 < failures (record_of t)
   failure_found b by failed =
       let walk : root_walk (state_of t) ≡ Fails b = subst (λ e. WalkedTo e (root_walk (state_of t))) (one_root_end (record_of t) (state_of t).root s.closed.end (bad b) s.closed.by by)
       (walked (state_of t) s.closed.end s.closed.at_end) in
@@ -232,18 +272,15 @@ module _ (told : Loc → Option Got) (shelved : Digest → Option (Option (List 
   answered_one : (ops : List Word) (w : Response) → Keeping faults (λ d e. FilesAll (faults d) (faults e) (filed d) (filed e) pairs) mid after
       → ResolvedAnswer v text (state_of t).root (record_of t) w → Answers v ops text (outside told shelved asked faults filed before after) w
   answered_one ops w k a = record {
-    found = record_of t;
-    finds = finds root s.closed.end pairs s.replayed.events takes spelled came asked_for (found_here k) by_root kept_by (all_at_first faults filed pairs before mid after s.fell s.filed_is k)
-        (all_faults faults filed (failures (record_of t)) pairs before mid after s.fell s.filed_is k s.fails);
-    does = spells root takes spelled (subst (λ r. ResolvedAnswer v text r (record_of t) w) s.root_is a);
-    devices = λ d. resolved_device v text (state_of t).root (record_of t) w a d (λ b by failed. failure_found b by failed);
+    found = record_of t ∷ [];
+    finds = finds (record_of t) (count_by is_fetch_claim s.replayed.events) pairs takes refl the_session (shown_by k);
+    does = on_input (record_of t) refl (spells root takes spelled (subst (λ r. ResolvedAnswer v text r (record_of t) w) s.root_is a));
+    devices = λ d. and_none (failures (record_of t)) (resolved_device v text (state_of t).root (record_of t) w a d (λ b by failed. failure_found b by failed));
   }
 
-  part_one : Keeping faults (λ d e. (kept : List Pair) × FilesSome (filed d) (filed e) pairs kept) mid after → FilesPart v text (outside told shelved asked faults filed before after)
-  part_one k = go (part_at_first faults filed pairs before mid after s.filed_is k)
-    where
-      go : (kept : List Pair) × FilesSome (first_of None (map filed before)) (first_of None (map filed after)) pairs kept → FilesPart v text (outside told shelved asked faults filed before after)
-      go (kept, files) = files_some root s.closed.end (record_of t) pairs kept s.replayed.events takes spelled came asked_for (found_here k) by_root kept_by files
+  part_one : (ops : List Word) → Keeping faults (λ d e. (kept : List Pair) × FilesSome (filed d) (filed e) pairs kept) mid after
+      → FilesPart v ops text (outside told shelved asked faults filed before after)
+  part_one ops k = files_some (record_of t) (count_by is_fetch_claim s.replayed.events) pairs takes the_session (shown_in_part k)
 
   pub answered : (r : Result Reply AllocError) → OnOk r (Keeping faults (λ d e. FilesAll (faults d) (faults e) (filed d) (filed e) pairs) mid after)
       → IfOk r (λ x. ResolvedAnswer v text (state_of t).root (record_of t) (written x)) → IfOk r (λ x. (ops : List Word) → Answers v ops text (outside told shelved asked faults filed before after) (written x))
@@ -251,20 +288,25 @@ module _ (told : Loc → Option Got) (shelved : Digest → Option (Option (List 
   answered (Err e) k a = tt
 
   pub answered_none : (r : Result Reply AllocError) → OnErr r (Keeping faults (λ d e. (kept : List Pair) × FilesSome (filed d) (filed e) pairs kept) mid after)
-      → OnErr r (FilesPart v text (outside told shelved asked faults filed before after))
+      → OnErr r ((ops : List Word) → FilesPart v ops text (outside told shelved asked faults filed before after))
   answered_none (Ok x) k = tt
-  answered_none (Err e) k = part_one k
+  answered_none (Err e) k = λ ops. part_one ops k
 
 -- ---- too many keys, and a text that spells nothing
+
+pub does_too_many : (v : Verb) (ops : List Word) (text : List ℕ) (root : Term) (w : Response) (at : Option Key) → at ≡ None → IsTrue (does_resolve v) → ParsesTo text (Ok root)
+    → has_too_many (opening root) ≡ true → w ≡ fault (in_item at (why_line whys.TooMany)) (why_status whys.TooMany) → Does v ops text nothing_found w
+does_too_many v ops text root w at none takes spelled many is =
+    spells root takes spelled
+    (overfull (overflows many) (at_fault (why_line whys.TooMany) (why_alone refl refl) (is ∙ ap (λ a. fault (in_item a (why_line whys.TooMany)) (why_status whys.TooMany)) none)))
 
 pub too_many_answered : (r : Result Reply AllocError) (v : Verb) (text : List ℕ) (root : Term) (o : Outside) (at : Option Key) → at ≡ None → IsTrue (does_resolve v) → ParsesTo text (Ok root)
     → IsLeftAlone o → has_too_many (opening root) ≡ true → IfOk r (λ x. written x ≡ fault (in_item at (why_line whys.TooMany)) (why_status whys.TooMany))
     → IfOk r (λ x. (ops : List Word) → Answers v ops text o (written x))
 too_many_answered (Ok x) v text root o at none takes spelled alone many w = λ ops. record {
-  found = nothing_found;
+  found = nothing_found ∷ [];
   finds = leaves refl alone;
-  does = spells root takes spelled
-      (overfull (overflows many) (at_fault (why_line whys.TooMany) (why_alone refl refl) (w ∙ ap (λ a. fault (in_item a (why_line whys.TooMany)) (why_status whys.TooMany)) none)));
+  does = on_input nothing_found refl (does_too_many v ops text root (written x) at none takes spelled many w);
   devices = other_statuses (written x) status.Limit (ap (λ w. w.status) w) (λ n. omega (arith, n));
 }
 too_many_answered (Err e) v text root o at none takes spelled alone many w = tt
@@ -272,9 +314,9 @@ too_many_answered (Err e) v text root o at none takes spelled alone many w = tt
 pub misspelt_answered : (r : Result Reply AllocError) (v : Verb) (text : List ℕ) (f : ParseFault) (o : Outside) → IsTrue (does_resolve v) → ParsesTo text (Err f)
     → IsLeftAlone o → IfOk r (λ x. written x ≡ misspelt f) → IfOk r (λ x. (ops : List Word) → Answers v ops text o (written x))
 misspelt_answered (Ok x) v text f o takes p alone w = λ ops. record {
-  found = nothing_found;
+  found = nothing_found ∷ [];
   finds = leaves refl alone;
-  does = spells_none f takes p w;
+  does = on_input nothing_found refl (spells_none f takes p w);
   devices = other_statuses (written x) status.Text (ap (λ w. w.status) w) (λ n. omega (arith, n));
 }
 misspelt_answered (Err e) v text f o takes p alone w = tt

@@ -1,5 +1,5 @@
 -- What a run says of its words and of its devices.
-use Rattle.std.proofs.Common.{◌≡◌, ◌⊎◌, inl, inr, ℕ, List, [], Option, Some, None, Result, Ok, Err, IfOk, IfSome, Bool, true, false, true≢false, refl, sym, ap, ◌∙◌, subst, arith}
+use Rattle.std.proofs.Common.{◌≡◌, ◌⊎◌, inl, inr, ℕ, ◌<◌, List, [], ◌∷◌, Option, Some, None, Result, Ok, Err, IfOk, IfSome, Bool, true, false, true≢false, refl, sym, ap, ◌∙◌, subst, arith}
 use Rattle.std.specs.Prelude.{MatchBool, IsTrue, OnErr}
 use Rattle.std.specs.declared.alloc.AllocError.{AllocError}
 use Rattle.dh_grammar.proofs.Results.Answering.{parses_once}
@@ -12,9 +12,13 @@ use Rattle.dh_command.specs.declared.statuses.Status.{Status}
 use Rattle.dh_command.specs.declared.statuses.Status.TheVariants as status
 use Rattle.dh_command.specs.declared.verbs.Verb.{Verb}
 use Rattle.dh_command.specs.declared.verbs.Verb.TheVariants as verb
-use Rattle.dh_command.specs.Answer.{Does, ResolvedAnswer, ValuedAnswer, encodes, decodes, decodes_none, spells, spells_none, takes_steps, explains, helps, tells_version, valued, faulty, circular, overfull, itself, frozen, typed, usage, does, encoded, decoded, Succeeds, SucceedsBy, SucceedsOn}
+use Rattle.dh_command.specs.Answer.{Does, ResolvedAnswer, ValuedAnswer, encodes, decodes, decodes_none, spells, spells_none, takes_steps, explains, helps, tells_version, valued, faulty, circular, overfull, itself, frozen, typed, usage, does, DoesAll, on_input, on_files, encoded, decoded, Succeeds, input_succeeds, files_succeed, list_succeeds, FilesSucceed, SucceedsOnInput, SucceedsBy, SucceedsOn, FileAnswer, FileAnswers, hashes_file, file_lacks_memory, no_file, a_file, first_fault, unless_ok, nothing_found}
+use Rattle.dh_command.specs.Generating.{GenAnswer, counts, faults}
 use Rattle.dh_command.specs.Responses.{Response, without_memory}
 use Rattle.dh_command.specs.Words.{Word, command_of, operand_words, reads, resolves as does_resolve}
+use Rattle.dh_files.specs.FileWords.{file_text}
+use Rattle.dh_gen.specs.Generated.{list_text}
+use Rattle.dh_gen.specs.NumberWords.{operand_number}
 use Rattle.dh_syntax.specs.Expressions.Tree.{Term}
 use Rattle.dh_imports.specs.Readings.{Reading, root_reading}
 use Rattle.dh_imports.specs.Records.{Record}
@@ -34,9 +38,9 @@ use Rattle.dh_top.proofs.Normals.{type_ends_ok, form_ends_ok}
 use Rattle.dh_top.proofs.Spelled.{not_both, same_term}
 use Rattle.dh_top.proofs.StepReplies.{steps_end_ok}
 use Rattle.dh_top.specs.declared.replies.Reply.{Reply}
-use Rattle.dh_top.specs.Outside.{Outside, nothing_found}
+use Rattle.dh_top.specs.Outside.{Outside}
 use Rattle.dh_top.specs.Replies.{written, IsMade}
-use Rattle.dh_top.specs.Runs.{Input, Output, Makes, DeskFailed, answers, cannot_read, lacks_memory, LacksMemory, Delivers, whole, out_failed, err_failed, Runs, Works, IsRead, IsTaken, IsLeft, reading}
+use Rattle.dh_top.specs.Runs.{Input, Output, Makes, DeskFailed, answers, generates, cannot_read, lacks_memory, LacksMemory, Delivers, whole, out_failed, err_failed, Runs, Works, IsRead, IsTaken, IsLeft, reading}
 
 -- a command line is no misuse, and asks for one command
 abbrev is_ok : Result Command ℕ → Bool
@@ -67,6 +71,8 @@ number verb.Steps = 8
 number verb.Explain = 9
 number verb.Help = 10
 number verb.Version = 11
+number verb.Batch = 12
+number verb.Gen = 13
 
 pub apart : (u v : Verb) → u ≡ v → (number u ≡ number v → ⊥) → ⊥
 apart u v e n = n (ap number e)
@@ -193,7 +199,7 @@ told_ok v ops text r w n (explains told h k q) = ap (λ w. w.status) q
 told_ok v ops text r w n (helps h q) = ap (λ w. w.status) q
 told_ok v ops text r w n (tells_version h q) = ap (λ w. w.status) q
 
-done : (v : Verb) (ops : List Word) (text : List ℕ) (r : Record) (w : Response) → Succeeds v ops text r → Does v ops text r w → w.status ≡ status.Ok
+done : (v : Verb) (ops : List Word) (text : List ℕ) (r : Record) (w : Response) → SucceedsOnInput v ops text r → Does v ops text r w → w.status ≡ status.Ok
 done verb.Encode ops text r w s (encodes o h p q) = ap (λ w. w.status) q ∙ ok_when_parsed o s.0 (parses_once text o (Ok s.0) p s.1)
 done verb.Encode ops text r w s (decodes o h l p q) = absurd (apart _ _ h (λ n. omega (arith, n)))
 done verb.Encode ops text r w s (decodes_none h l q) = absurd (apart _ _ h (λ n. omega (arith, n)))
@@ -230,6 +236,8 @@ done verb.Steps ops text r w s (tells_version h q) = absurd (apart _ _ h (λ n. 
 done verb.Explain ops text r w s d = told_ok verb.Explain ops text r w refl d
 done verb.Help ops text r w s d = told_ok verb.Help ops text r w refl d
 done verb.Version ops text r w s d = told_ok verb.Version ops text r w refl d
+done verb.Batch ops text r w s d = absurd s
+done verb.Gen ops text r w s d = absurd s
 
 same_text : (words : List Word) (c : Command) (text left : List ℕ) (input : Input) → reads c.verb ≡ true → input.before ≡ Some left → command_of words ≡ Ok c
     → IsRead (command_of words) text input → text ≡ left
@@ -238,18 +246,89 @@ same_text words c text left input t b e r =
     subst (λ o. IfSome o (λ l. text ≡ l)) b (taken_by (reads c.verb) text input t read).0
 
 ends_ok : (reading : Bool) (words : List Word) (c : Command) (text left : List ℕ) (input : Input) (r : Record) (w : Response) → reads c.verb ≡ reading → input.before ≡ Some left
-    → command_of words ≡ Ok c → IsRead (command_of words) text input → Succeeds c.verb (operand_words words) left r → Does c.verb (operand_words words) text r w → w.status ≡ status.Ok
+    → command_of words ≡ Ok c → IsRead (command_of words) text input → SucceedsOnInput c.verb (operand_words words) left r → Does c.verb (operand_words words) text r w → w.status ≡ status.Ok
 ends_ok true words c text left input r w t b e read s q = done c.verb (operand_words words) left r w s (subst (λ t. Does c.verb (operand_words words) t r w) (same_text words c text left input t b e read) q)
 ends_ok false words c text left input r w t b e read s q = told_ok c.verb (operand_words words) text r w t q
 
-fine : (words : List Word) (c : Command) (left : List ℕ) (input : Input) (o : Outside) (r : Record) (w : Response) → input.before ≡ Some left → command_of words ≡ Ok c
-    → Succeeds c.verb (operand_words words) left r → (Rose input.faults_before input.faults_after → ⊥) → Makes words input o r w → (w.status ≡ status.Ok) ⊎ (w.status ≡ status.Memory)
-fine words c left input o r w b e s n (answers text read f (usage k h u)) = absurd (ok_not_err c k (command_of words) e h)
-fine words c left input o r w b e s n (answers text read f (does d h q)) =
+-- ---- files
+
+-- files that have digests are answered by them, unless memory is wanting
+files_done : {ops : List Word} {rs : List Record} {ws : List Response} → FileAnswers ops rs ws → FilesSucceed ops rs → (first_fault ws ≡ status.Ok) ⊎ (first_fault ws ≡ status.Memory)
+files_done no_file s = inl refl
+files_done (a_file {word = word} {r = r} {w = w} {ws = ws} a rest) s = by a (files_done rest s.1)
+  where
+    after : (w.status ≡ status.Ok) → (first_fault ws ≡ status.Ok) ⊎ (first_fault ws ≡ status.Memory) → (first_fault (w ∷ ws) ≡ status.Ok) ⊎ (first_fault (w ∷ ws) ≡ status.Memory)
+    after ok (inl h) = inl (ap (λ x. unless_ok x (first_fault ws)) ok ∙ h)
+    after ok (inr h) = inr (ap (λ x. unless_ok x (first_fault ws)) ok ∙ h)
+
+    by : FileAnswer word r w → (first_fault ws ≡ status.Ok) ⊎ (first_fault ws ≡ status.Memory) → (first_fault (w ∷ ws) ≡ status.Ok) ⊎ (first_fault (w ∷ ws) ≡ status.Memory)
+    by (hashes_file d) h = after (done verb.Hash [] (file_text word) r w s.0 d) h
+    by (file_lacks_memory none u) h = inr (ap (λ (x : Response). unless_ok x.status (first_fault ws)) u)
+
+-- nothing is written of the input by another command than those that have a constructor
+none_does : (u v : Verb) (ops : List Word) (text : List ℕ) (r : Record) (w : Response) → does_resolve u ≡ false → 11 < number u → v ≡ u → Does v ops text r w → ⊥
+none_does u v ops text r w none far b (encodes o h p q) = apart u verb.Encode (sym b ∙ h) (λ n. omega (arith, n, far))
+none_does u v ops text r w none far b (decodes o h l p q) = apart u verb.Decode (sym b ∙ h) (λ n. omega (arith, n, far))
+none_does u v ops text r w none far b (decodes_none h l q) = apart u verb.Decode (sym b ∙ h) (λ n. omega (arith, n, far))
+none_does u v ops text r w none far b (spells d h q a) = unresolved u v none h b
+none_does u v ops text r w none far b (spells_none g h q x) = unresolved u v none h b
+none_does u v ops text r w none far b (takes_steps places x h n a y) = apart u verb.Steps (sym b ∙ h) (λ n. omega (arith, n, far))
+none_does u v ops text r w none far b (explains told h k q) = apart u verb.Explain (sym b ∙ h) (λ n. omega (arith, n, far))
+none_does u v ops text r w none far b (helps h q) = apart u verb.Help (sym b ∙ h) (λ n. omega (arith, n, far))
+none_does u v ops text r w none far b (tells_version h q) = apart u verb.Version (sym b ∙ h) (λ n. omega (arith, n, far))
+
+-- `batch` writes nothing of its input
+pub files_only : (v : Verb) (ops : List Word) (text : List ℕ) (r : Record) (w : Response) → v ≡ verb.Batch → Does v ops text r w → ⊥
+files_only v ops text r w b d = none_does verb.Batch v ops text r w refl (omega arith) b d
+
+one_record : (r x : Record) (rs : List Record) → rs ≡ r ∷ [] → rs ≡ x ∷ [] → r ≡ x
+one_record r x rs p q = let e : r ∷ [] ≡ x ∷ [] = sym p ∙ q in cc
+
+all_ok : (words : List Word) (c : Command) (text left : List ℕ) (input : Input) (rs : List Record) (w : Response) → input.before ≡ Some left → command_of words ≡ Ok c
+    → IsRead (command_of words) text input → Succeeds c.verb (operand_words words) left rs → DoesAll c.verb (operand_words words) text rs w → (w.status ≡ status.Ok) ⊎ (w.status ≡ status.Memory)
+all_ok words c text left input rs w b e read (input_succeeds r one s) (on_input x two d) =
+    inl (ends_ok (reads c.verb) words c text left input r w refl b e read s (subst (λ y. Does c.verb (operand_words words) text y w) (one_record x r rs two one) d))
+all_ok words c text left input rs w b e read (input_succeeds r one s) (on_files ws f a u) = absurd (subst (λ v. SucceedsOnInput v (operand_words words) left r) f s)
+all_ok words c text left input rs w b e read (files_succeed f s) (on_input x two d) = absurd (files_only c.verb (operand_words words) text x w f d)
+all_ok words c text left input rs w b e read (list_succeeds n r g named one s) (on_input x two d) = absurd (none_does verb.Gen c.verb (operand_words words) text x w refl (omega arith) g d)
+all_ok words c text left input rs w b e read (list_succeeds n r g named one s) (on_files ws f a u) = absurd (apart verb.Gen verb.Batch (sym g ∙ f) (λ k. omega (arith, k)))
+all_ok words c text left input rs w b e read (files_succeed f s) (on_files ws g a u) = by (files_done a s)
+  where
+    is : w.status ≡ first_fault ws
+    is = ap (λ (x : Response). x.status) u
+
+    by : (first_fault ws ≡ status.Ok) ⊎ (first_fault ws ≡ status.Memory) → (w.status ≡ status.Ok) ⊎ (w.status ≡ status.Memory)
+    by (inl h) = inl (is ∙ h)
+    by (inr h) = inr (is ∙ h)
+
+-- ---- the list of generated imports
+
+one_number : (n m : ℕ) (o : Result ℕ ℕ) → o ≡ Ok n → o ≡ Ok m → n ≡ m
+one_number n m o p q = let e : ◌≡◌ {A = Result ℕ ℕ} (Ok n) (Ok m) = sym p ∙ q in cc
+
+-- a list that has a digest is answered by it
+list_done : (n : ℕ) (r : Record) (asked : ℕ) (w : Response) → SucceedsBy verb.Hash (list_text n) r → GenAnswer n r asked w → w.status ≡ status.Ok
+list_done n r asked w s (counts root digest p d u) = ap (λ (x : Response). x.status) u
+list_done n r asked w s (faults d other) = absurd (other (done verb.Hash [] (list_text n) r w s d))
+
+list_ok : (v : Verb) (ops : List Word) (left : List ℕ) (rs : List Record) (n : ℕ) (x : Record) (asked : ℕ) (w : Response) → v ≡ verb.Gen → operand_number 1 ops ≡ Ok n → rs ≡ x ∷ []
+    → GenAnswer n x asked w → Succeeds v ops left rs → w.status ≡ status.Ok
+list_ok v ops left rs n x asked w g named one a (input_succeeds r two s) = absurd (subst (λ v. SucceedsOnInput v ops left r) g s)
+list_ok v ops left rs n x asked w g named one a (files_succeed f s) = absurd (apart verb.Gen verb.Batch (sym g ∙ f) (λ k. omega (arith, k)))
+list_ok v ops left rs n x asked w g named one a (list_succeeds m r h again two s) =
+    list_done n x asked w
+    (subst (SucceedsBy verb.Hash (list_text n)) (one_record r x rs two one) (subst (λ z. SucceedsBy verb.Hash (list_text z) r) (sym (one_number n m (operand_number 1 ops) named again)) s)) a
+
+fine : (words : List Word) (c : Command) (left : List ℕ) (input : Input) (o : Outside) (rs : List Record) (w : Response) → input.before ≡ Some left → command_of words ≡ Ok c
+    → Succeeds c.verb (operand_words words) left rs → (Rose input.faults_before input.faults_after → ⊥) → Makes words input o rs w → (w.status ≡ status.Ok) ⊎ (w.status ≡ status.Memory)
+fine words c left input o rs w b e s n (answers text read f (usage k h u)) = absurd (ok_not_err c k (command_of words) e h)
+fine words c left input o rs w b e s n (answers text read f (does d h q)) =
     let one = ok_is c d (command_of words) e h in
-    inl (ends_ok (reads c.verb) words c text left input r w refl b e read s (subst (λ (d : Command). Does d.verb (operand_words words) text r w) (sym one) q))
-fine words c left input o r w b e s n (cannot_read d h rose alone u) = absurd (n rose)
-fine words c left input o r w b e s n (lacks_memory l u) = inr (ap (λ w. w.status) u)
+    all_ok words c text left input rs w b e read s (subst (λ (d : Command). DoesAll d.verb (operand_words words) text rs w) (sym one) q)
+fine words c left input o rs w b e s n (generates d m r asked h g named one kept alone session a) =
+    let same = ok_is c d (command_of words) e h in inl (list_ok c.verb (operand_words words) left rs m r asked w (ap (λ (x : Command). x.verb) same ∙ g) named one a s)
+fine words c left input o rs w b e s n (cannot_read d h rose alone u) = absurd (n rose)
+fine words c left input o rs w b e s n (lacks_memory l u) = inr (ap (λ w. w.status) u)
 
 fine_whole : (w : Response) (out err : Output) (s : Status) → (w.status ≡ status.Ok) ⊎ (w.status ≡ status.Memory) → (Rose out.faults_before out.faults_after → ⊥)
     → (Rose err.faults_before err.faults_after → ⊥) → Delivers w out err s → (s ≡ status.Ok) ⊎ (s ≡ status.Memory)
@@ -259,7 +338,7 @@ fine_whole w out err s u p q (out_failed g h e) = absurd (p g.failed)
 fine_whole w out err s u p q (err_failed g h e) = absurd (q h.failed)
 
 -- a run from what was made and how it was delivered
-pub ran : (words : List Word) (input : Input) (o : Outside) (out err : Output) (r : Record) (w v : Response) (s : Status) → Makes words input o r w → w ≡ v → Delivers v out err s
+pub ran : (words : List Word) (input : Input) (o : Outside) (out err : Output) (r : List Record) (w v : Response) (s : Status) → Makes words input o r w → w ≡ v → Delivers v out err s
     → Runs words input o out err s
 ran words input o out err r w v s m e d = record {
   found = r;
@@ -293,4 +372,4 @@ pub ran_lacking : {A : Type 0} (words : List Word) (input : Input) (o : Outside)
 ran_lacking words input o out err r e to_out to_err s is l p q d =
     let lacks : LacksMemory words input o = subst (λ r. OnErr r (LacksMemory words input o)) is l in
     let with : List ℕ → List ℕ → Response = λ a b. record { out = a; err = b; status = status.Memory } in
-    ran words input o out err nothing_found without_memory (with to_out to_err) s (lacks_memory lacks refl) (ap (λ a. with a without_memory.err) (sym p) ∙ ap (λ b. with to_out b) (sym q)) d
+    ran words input o out err (nothing_found ∷ []) without_memory (with to_out to_err) s (lacks_memory lacks refl) (ap (λ a. with a without_memory.err) (sym p) ∙ ap (λ b. with to_out b) (sym q)) d

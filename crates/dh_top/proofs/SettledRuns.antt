@@ -5,7 +5,7 @@ use Rattle.std.proofs.lemmas.List.{append_assoc, append_cancel_right}
 use Rattle.dh_command.specs.declared.commands.Command.{Command}
 use Rattle.dh_command.specs.declared.verbs.Verb.{Verb}
 use Rattle.dh_command.specs.declared.verbs.Verb.TheVariants as verb
-use Rattle.dh_command.specs.Answer.{CommandAnswer, usage, does, Does, encodes, decodes, decodes_none, spells, spells_none, takes_steps, explains, helps, tells_version}
+use Rattle.dh_command.specs.Answer.{CommandAnswer, usage, does, on_input, on_files, Does, encodes, decodes, decodes_none, spells, spells_none, takes_steps, explains, helps, tells_version}
 use Rattle.dh_command.specs.Responses.{Response, line}
 use Rattle.dh_command.specs.StepsReplies.{steps_response}
 use Rattle.dh_command.specs.Words.{Word, command_of, operand_words}
@@ -83,15 +83,20 @@ run-told verb.ToJson ops input text r w v d k = absurd (apart _ _ v (λ n. omega
 run-told verb.Explain ops input text r w v d k = absurd (apart _ _ v (λ n. omega (arith, n)))
 run-told verb.Help ops input text r w v d k = absurd (apart _ _ v (λ n. omega (arith, n)))
 run-told verb.Version ops input text r w v d k = absurd (apart _ _ v (λ n. omega (arith, n)))
+run-told verb.Gen ops input text r w v d k = absurd (apart _ _ v (λ n. omega (arith, n)))
+run-told verb.Batch ops input text r w v d k = absurd (apart _ _ v (λ n. omega (arith, n)))
 
 commands-equal : (c d : Command) → ◌≡◌ {A = Result Command ℕ} (Ok c) (Ok d) → c ≡ d
 commands-equal c d h = cc
 
 line-told : (words : List Word) (input text : List ℕ) → TellsSettled words input text → (places : List (List ℕ)) × StepsAnswer places input (Printed text settled_line)
-line-told words input text (c, r, w, p, v, usage k q u, o) = absurd cc
-line-told words input text (c, r, w, p, v, does d q a, o) =
+line-told words input text (c, rs, w, p, v, usage k q u, o) = absurd cc
+line-told words input text (c, rs, w, p, v, does d q (on_input r one a), o) =
     let same : d ≡ c = commands-equal d c (sym q ∙ p) in
     run-told d.verb (operand_words words) input text r w (ap (λ (x : Command). x.verb) same ∙ v) a o
+line-told words input text (c, rs, w, p, v, does d q (on_files ws b a u), o) =
+    let same : d ≡ c = commands-equal d c (sym q ∙ p) in
+    absurd (apart verb.Batch verb.Steps (sym b ∙ (ap (λ (x : Command). x.verb) same ∙ v)) (λ n. omega (arith, n)))
 
 pub settled_runs : SettledRuns
 settled_runs words others input text other h k =

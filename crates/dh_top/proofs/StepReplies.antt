@@ -5,7 +5,7 @@ use Rattle.std.specs.Result.{result_ok}
 use Rattle.std.specs.declared.alloc.AllocError.{AllocError}
 use Rattle.dh_command.specs.declared.statuses.Status.TheVariants as status
 use Rattle.dh_command.specs.Responses.{Response, answer, line, misspelt}
-use Rattle.dh_command.specs.Answer.{Does, takes_steps}
+use Rattle.dh_command.specs.Answer.{Does, nothing_found, takes_steps}
 use Rattle.dh_command.specs.StepsReplies.{AreNamed, OperandsSucceed, steps_response}
 use Rattle.dh_command.specs.declared.statuses.Status.{Status}
 use Rattle.dh_command.specs.declared.verbs.Verb.TheVariants as verb
@@ -13,7 +13,6 @@ use Rattle.dh_syntax.specs.declared.faults.ParseFault.{ParseFault}
 use Rattle.dh_steps.specs.StepsAnswer as replies
 use Rattle.dh_steps.specs.StepsAnswer.{StepsAnswer, StepsReply}
 use Rattle.dh_steps.specs.StepLines.{outside_line, no_rule_line, grown_line, settled_line, unsettled_line}
-use Rattle.dh_top.specs.Outside.{nothing_found}
 use Rattle.dh_confluence.proofs.OneEnd.{settled_decides}
 use Rattle.dh_confluence.specs.FragmentSteps.{is_settled}
 use Rattle.dh_laws.proofs.KeyOrder.{none-some, some-equal}

@@ -119,9 +119,11 @@ types_of verb.Hash t n m = refl
 types_of verb.ToJson t n m = refl
 types_of verb.Steps t n m = absurd (true≢false (sym t))
 types_of verb.Freeze t n m = absurd (m refl)
+types_of verb.Gen t n m = absurd (true≢false (sym t))
 types_of verb.Explain t n m = absurd (true≢false (sym t))
 types_of verb.Help t n m = absurd (true≢false (sym t))
 types_of verb.Version t n m = absurd (true≢false (sym t))
+types_of verb.Batch t n m = absurd (true≢false (sym t))
 
 pub itself_any : (r : Result Reply AllocError) (v : Verb) (i : Reading) (e : Term) → v ≡ verb.Resolve → IfOk r (λ x. written x ≡ answer (line (text_of e)))
     → IfOk r (λ x. ValuedAnswer v i e (written x))

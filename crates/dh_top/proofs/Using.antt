@@ -1,9 +1,11 @@
 -- Which desks a run used.
-use Rattle.std.proofs.Common.{◌≡◌, ℕ, zero, suc, ◌+◌, ◌<◌, List, map, drop, Option, Bool, true, false, true≢false, if◌then◌else◌, Result, Ok, Err, refl, sym, ap, ◌∙◌, subst, arith}
+use Rattle.std.proofs.Common.{◌≡◌, ℕ, zero, suc, ◌+◌, ◌<◌, List, map, drop, Option, Bool, true, false, true≢false, ◌||◌, if◌then◌else◌, Result, Ok, Err, refl, sym, ap, ◌∙◌, subst, arith}
 use Rattle.std.specs.Prelude.{IsTrue, OnOk, OnErr, max, min}
 use Rattle.std.proofs.lemmas.List.{drop-drop, drop-map}
 use Rattle.dh_command.specs.declared.commands.Command.{Command}
-use Rattle.dh_command.specs.Words.{Word, command_of, resolves as does_resolve}
+use Rattle.dh_command.specs.declared.verbs.Verb.{Verb}
+use Rattle.dh_command.specs.declared.verbs.Verb.TheVariants as verb
+use Rattle.dh_command.specs.Words.{Word, command_of, takes_files, uses_desks, resolves as does_resolve}
 use Rattle.dh_top.specs.Outside.{Pair, AtFirst, at_first, UsesFirst, desks_of, desks_for}
 
 -- ---- the first desk alone was used for what is kept
@@ -26,14 +28,29 @@ map_rest f ds es h = drop-map f 1 es ∙ ap (λ xs. map f xs) h ∙ sym (drop-ma
 
 -- ---- the workers of a command
 
+or_left : (a b : Bool) → a ≡ true → a || b ≡ true
+or_left true b h = refl
+or_left false b h = absurd (true≢false (sym h))
+
+or_right : (a b : Bool) → b ≡ true → a || b ≡ true
+or_right true b h = refl
+or_right false b h = h
+
+-- what resolves the imports of its input, or of files, uses desks
+pub resolving_uses : (v : Verb) → IsTrue (does_resolve v) → IsTrue (uses_desks v)
+resolving_uses v h = or_left (does_resolve v) (takes_files v) h
+
+pub batch_uses : (v : Verb) → v ≡ verb.Batch → IsTrue (uses_desks v)
+batch_uses v h = or_right (does_resolve v) (takes_files v) (ap takes_files h)
+
 used_by : (b : Bool) (m : ℕ) → b ≡ true → m ≡ (if b then m else 0)
 used_by true m t = refl
 used_by false m t = absurd (true≢false (sym t))
 
-module _ {D : Type 0} (filed : D → Option (List Pair)) (c : Command) (n w : ℕ) (before mid : List D) (takes : IsTrue (does_resolve c.verb)) (is : w ≡ max 1 (min c.workers n))
+module _ {D : Type 0} (filed : D → Option (List Pair)) (c : Command) (n w : ℕ) (before mid : List D) (takes : IsTrue (uses_desks c.verb)) (is : w ≡ max 1 (min c.workers n))
     (idle : drop w mid ≡ drop w before) (same : map filed mid ≡ map filed before) where
   workers : w ≡ desks_of c n
-  workers = is ∙ used_by (does_resolve c.verb) (max 1 (min c.workers n)) takes
+  workers = is ∙ used_by (uses_desks c.verb) (max 1 (min c.workers n)) takes
 
   -- nothing was kept
   pub uses_workers : UsesFirst filed (desks_of c n) before mid

@@ -1,6 +1,6 @@
 -- A run with a cache that was honestly written.
-use Rattle.std.specs.Prelude.{◌≡◌, ℕ, true, IsTrue, IfSome, MatchBool, List, [], Option, Some, None, Result, Ok, Err, refl}
-use Rattle.std.proofs.Common.{ap, sym, ◌∙◌, subst}
+use Rattle.std.specs.Prelude.{◌≡◌, ℕ, true, IsTrue, IfSome, MatchBool, List, [], ◌∷◌, Option, Some, None, Result, Ok, Err, refl}
+use Rattle.std.proofs.Common.{true≢false, ap, sym, ◌∙◌, subst}
 use Rattle.dh_command.specs.declared.commands.Command.{Command}
 use Rattle.dh_syntax.specs.declared.faults.NormFault.TheVariants as norms
 use Rattle.dh_syntax.specs.declared.faults.TypeFault.TheVariants as types
@@ -12,39 +12,40 @@ use Rattle.dh_command.specs.declared.statuses.Status.TheVariants as status
 use Rattle.dh_command.specs.declared.verbs.Verb.{Verb}
 use Rattle.dh_command.specs.declared.verbs.Verb.TheVariants as verb
 use Rattle.dh_command.specs.Responses.{Response}
-use Rattle.dh_command.specs.Answer.{CommandAnswer, usage, does, Does}
+use Rattle.dh_command.specs.Answer.{CommandAnswer, usage, does, on_input, on_files, Does, nothing_found}
 use Rattle.dh_command.specs.Words.{Word, command_of, operand_words, resolves, reads}
 use Rattle.dh_command.specs.Statuses.{why_status}
 use Rattle.dh_syntax.specs.Expressions.Tree.{Term}
 use Rattle.dh_imports.specs.Records.{Record, limit_at, IsLimitOf}
 use Rattle.dh_laws.proofs.KeyOrder.{none-some}
-use Rattle.dh_top.specs.Outside.{Outside, Finds, finds, leaves}
-use Rattle.dh_top.specs.Runs.{Input, Output, Gains, IsTaken, IsLeft, IsRead, FindsFor, Makes, answers, cannot_read, lacks_memory, Delivers, whole, out_failed, err_failed}
+use Rattle.dh_top.specs.Outside.{Outside, IsFound, Shelving, Telling}
+use Rattle.dh_top.specs.Runs.{Input, Output, Gains, IsTaken, IsLeft, IsRead, FindsFor, Makes, answers, generates, cannot_read, lacks_memory, Delivers, whole, out_failed, err_failed}
 use Rattle.dh_cache_laws.specs.WarmAnswers.{AreSameLines}
 use Rattle.dh_top.specs.WarmRuns as warm
 use Rattle.dh_cache_laws.specs.WarmCache.{IsWarm}
-use Rattle.dh_top.specs.WarmRuns.{IsHonestRun, HasPlainRun, EndsWarmly, WritesSame, WarmRunsOn, WarmRuns}
+use Rattle.dh_top.specs.WarmRuns.{IsHonestRun, HasPlainRun, HasPlainRunOf, EndsWarmly, WritesSame, WarmRunsOn, WarmRuns}
 use Rattle.dh_imports.specs.Resolver.{resolve}
 use Rattle.dh_cache_laws.proofs.WarmAnswers.{warm_answers}
+use Rattle.dh_top.proofs.EachFound.{EachRecord, each_found}
 use Rattle.dh_cache_laws.proofs.WarmRoots.{honest_entries}
 
-ends-as : (s t : Status) → s ≡ t → EndsWarmly t → EndsWarmly s
+pub ends-as : (s t : Status) → s ≡ t → EndsWarmly t → EndsWarmly s
 ends-as s t p h = subst EndsWarmly (sym p) h
 
-memory-ok : {A : Type 0} → status.Memory ≡ status.Ok → A
+pub memory-ok : {A : Type 0} → status.Memory ≡ status.Ok → A
 memory-ok h = absurd cc
 
-read-ok : {A : Type 0} → status.Read ≡ status.Ok → A
+pub read-ok : {A : Type 0} → status.Read ≡ status.Ok → A
 read-ok h = absurd cc
 
-write-ok : {A : Type 0} → status.Write ≡ status.Ok → A
+pub write-ok : {A : Type 0} → status.Write ≡ status.Ok → A
 write-ok h = absurd cc
 
-abbrev command_in : Command → Result Command ℕ → Command
+abbrev pub command_in : Command → Result Command ℕ → Command
 command_in e (Ok d) = d
 command_in e (Err n) = e
 
-abbrev IsCommand : Result Command ℕ → Type 0
+abbrev pub IsCommand : Result Command ℕ → Type 0
 IsCommand (Ok d) = Unit {0}
 IsCommand (Err n) = ⊥
 
@@ -58,11 +59,13 @@ reads-too verb.Freeze h = refl
 reads-too verb.Encode h = refl
 reads-too verb.Decode h = refl
 reads-too verb.Steps h = refl
+reads-too verb.Gen h = absurd cc
 reads-too verb.Explain h = absurd cc
 reads-too verb.Help h = absurd cc
 reads-too verb.Version h = absurd cc
+reads-too verb.Batch h = absurd cc
 
-limit_of-status : (e : Term) (w : Why) → IsLimitOf e w → why_status w ≡ status.Limit
+pub limit_of-status : (e : Term) (w : Why) → IsLimitOf e w → why_status w ≡ status.Limit
 limit_of-status e (whys.Typing types.Wide) h = refl
 limit_of-status e (whys.Typing types.Spent) h = refl
 limit_of-status e (whys.Typing types.Deep) h = refl
@@ -85,14 +88,16 @@ limit_of-status e whys.Cycle h = absurd h
 limit_of-status e whys.TooMany h = absurd h
 
 -- what a run found for a limit is one
-abbrev HasLimits : Record → Type 0
+abbrev pub HasLimits : Record → Type 0
 HasLimits r = (k : Key) (w : Why) → limit_at r k ≡ Some w → why_status w ≡ status.Limit
 
-found-limits : (v : Verb) (text : List ℕ) (o : Outside) (r : Record) → Finds v text o r → HasLimits r
-found-limits v text o r (finds root end pairs steps h p came asks found e k files f) l w q = let limited = found.limits l w q in limit_of-status limited.code w limited.licensed
-found-limits v text o r (leaves h alone) l w q = none-some refl (sym (ap (λ x. limit_at x l) h) ∙ q)
+pub found-limits : (told : Telling) (shelved : Shelving) (r : Record) → IsFound told shelved r → HasLimits r
+found-limits told shelved r f l w q = let limited = f.limits l w q in limit_of-status limited.code w limited.licensed
 
-warm-of : (r : Record) (root : Term) (plain : Record) → HasLimits r → IsHonestRun r root plain → IsWarm r root plain
+pub nothing-limits : HasLimits nothing_found
+nothing-limits l w q = none-some refl q
+
+pub warm-of : (r : Record) (root : Term) (plain : Record) → HasLimits r → IsHonestRun r root plain → IsWarm r root plain
 warm-of r root plain limits h = record {
   agree = record { texts = h.texts; limits = limits; plain_limits = h.limits };
   spend = h.spend;
@@ -100,8 +105,8 @@ warm-of r root plain limits h = record {
   entries = honest_entries r (resolve r h.spend []) root plain h.honest;
 }
 
-module _ (words : List Word) (input : Input) (o : Outside) (out err : Output) (s : Status) (r : Record) (w : Response) (c : Command) (text bytes : List ℕ)
-    (hc : command_of words ≡ Ok c) (rv : IsTrue (resolves c.verb)) (p : HasPlainRun c.verb (operand_words words) text r bytes) (free : ¬ (s ≡ status.Limit)) where
+module _ (words : List Word) (input : Input) (o : Outside) (out err : Output) (s : Status) (rs : List Record) (w : Response) (c : Command) (text bytes : List ℕ)
+    (hc : command_of words ≡ Ok c) (rv : IsTrue (resolves c.verb)) (p : HasPlainRunOf c.verb (operand_words words) text rs bytes) (free : ¬ (s ≡ status.Limit)) where
   abbrev Ends : Type 0
   Ends = EndsWarmly s × (s ≡ status.Ok → WritesSame c.verb bytes out err)
 
@@ -114,23 +119,32 @@ module _ (words : List Word) (input : Input) (o : Outside) (out err : Output) (s
   early t e n h (out_failed g k q) = unwritten q
   early t e n h (err_failed g k q) = unwritten q
 
-  answered : HasLimits r → Does c.verb (operand_words words) text r w → Delivers w out err s → Ends
-  answered l d (whole g k q) =
+  answered : (r : Record) → HasPlainRun c.verb (operand_words words) text r bytes → HasLimits r → Does c.verb (operand_words words) text r w → Delivers w out err s → Ends
+  answered r p l d (whole g k q) =
       let (ok, nothing, same) =
       warm_answers c.verb (operand_words words) text r p.plain w p.answer rv (λ root h. warm-of r root p.plain l (p.honest root h)) p.does p.succeeds d (λ h. free (q ∙ h)) in (
         ends-as s status.Ok (q ∙ ok) warm.well,
         λ h. record { written = w.out; gains = g; quiet = subst (Gains err) nothing k; same = subst (λ b. AreSameLines c.verb b w.out) p.writes same },
       )
-  answered l d (out_failed g k q) = unwritten q
-  answered l d (err_failed g k q) = unwritten q
+  answered r p l d (out_failed g k q) = unwritten q
+  answered r p l d (err_failed g k q) = unwritten q
 
-  answered_by : (t : List ℕ) → t ≡ text → HasLimits r → CommandAnswer words t r w → Delivers w out err s → Ends
+  same_command : (b : Command) → command_of words ≡ Ok b → b ≡ c
+  same_command b h = ap (command_in c) (sym h ∙ hc)
+
+  answered_by : (t : List ℕ) → t ≡ text → EachRecord HasLimits rs → CommandAnswer words t rs w → Delivers w out err s → Ends
   answered_by t e l (usage n h q) d = absurd (subst IsCommand (sym hc ∙ h) tt)
-  answered_by t e l (does b h q) d =
-      answered l (subst (λ x. Does x.verb (operand_words words) text r w) (ap (command_in c) (sym h ∙ hc)) (subst (λ x. Does b.verb (operand_words words) x r w) e q)) d
+  answered_by t e l (does b h (on_input r one q)) d =
+      answered r (p r one) (subst (EachRecord HasLimits) one l).0
+      (subst (λ x. Does x.verb (operand_words words) text r w) (same_command b h) (subst (λ x. Does b.verb (operand_words words) x r w) e q)) d
+  answered_by t e l (does b h (on_files ws f a u)) d =
+      absurd (true≢false (sym (subst (λ v. resolves v ≡ true) (ap (λ (x : Command). x.verb) (sym (same_command b h)) ∙ f) rv)))
 
-  made : (m : Makes words input o r w) → warm.Answers m text → Delivers w out err s → Ends
-  made (answers t h f q) e d = answered_by t e (found-limits c.verb t o r (subst (λ x. FindsFor x t o r) hc f)) q d
+  made : (m : Makes words input o rs w) → warm.Answers m text → Delivers w out err s → Ends
+  made (answers t h f q) e d =
+      answered_by t e (each_found HasLimits nothing-limits found-limits c.verb (operand_words words) t o rs (subst (λ x. FindsFor x (operand_words words) t o rs) hc f)) q d
+  made (generates b n r asked h g named one left alone s a) e d =
+      absurd (true≢false (sym (subst (λ v. resolves v ≡ true) (ap (λ (x : Command). x.verb) (sym (same_command b h)) ∙ g) rv)))
   made (cannot_read b h f k q) e d = early status.Read warm.unread (λ A x. read-ok x) (ap (λ x. x.status) q) d
   made (lacks_memory h q) e d = early status.Memory warm.lacking (λ A x. memory-ok x) (ap (λ x. x.status) q) d
 
@@ -138,7 +152,7 @@ pub warm_runs_on : WarmRunsOn
 warm_runs_on words input o out err s run c text bytes hc rv e p free =
     made words input o out err s run.found run.written c text bytes hc rv p free run.makes e run.delivers
 
-module _ (words : List Word) (input : Input) (o : Outside) (r : Record) (w : Response) (c : Command) (text : List ℕ)
+module _ (words : List Word) (input : Input) (o : Outside) (rs : List Record) (w : Response) (c : Command) (text : List ℕ)
     (hc : command_of words ≡ Ok c) (rv : IsTrue (resolves c.verb)) (told : input.before ≡ Some text) where
   taken : (t : List ℕ) → IsRead (command_of words) t input → t ≡ text
   taken t h =
@@ -146,8 +160,9 @@ module _ (words : List Word) (input : Input) (o : Outside) (r : Record) (w : Res
       let is_taken : IsTaken t input = subst (λ b. MatchBool b (IsTaken t input) (IsLeft input)) (reads-too c.verb rv) read in
       subst (λ b. IfSome b (λ left. t ≡ left)) told is_taken.0
 
-  told-answers : (m : Makes words input o r w) → warm.Answers m text
+  told-answers : (m : Makes words input o rs w) → warm.Answers m text
   told-answers (answers t h f q) = taken t h
+  told-answers (generates b n r asked h g named one left alone s a) = tt
   told-answers (cannot_read b h f k q) = tt
   told-answers (lacks_memory h q) = tt
 

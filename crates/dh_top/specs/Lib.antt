@@ -1,7 +1,10 @@
 pub mod Causes
+pub mod FileReplies
+pub mod Generating
 pub mod Inputs
 pub mod Outside
 pub mod Replies
 pub mod Runs
 pub mod SettledRuns
+pub mod WarmBatches
 pub mod WarmRuns

@@ -5,7 +5,7 @@ use Rattle.dh_syntax.specs.declared.faults.Ill.{Ill}
 use Rattle.dh_syntax.specs.declared.locations.Key.{Key}
 use Rattle.dh_command.specs.declared.statuses.Status.TheVariants as status
 use Rattle.dh_command.specs.declared.verbs.Verb.{Verb}
-use Rattle.dh_command.specs.Answer.{Does}
+use Rattle.dh_command.specs.Answer.{DoesAll}
 use Rattle.dh_command.specs.Responses.{Response, answer, fault, line}
 use Rattle.dh_imports.specs.ImportFaults.{in_item}
 use Rattle.dh_command.specs.PlacedFaults.{ill_line_at}
@@ -28,7 +28,7 @@ use Rattle.dh_table.specs.declared.roots.Ended.{Ended}
 use Rattle.dh_table.specs.Roots.{IsEnd, IsFitEnd}
 use Rattle.dh_table.specs.Shown.{Shown}
 use Rattle.dh_table.specs.States.{record_of, state_of}
-use Rattle.dh_top.specs.Outside.{Outside, Finds, failures}
+use Rattle.dh_top.specs.Outside.{Outside, Finds, all_failures}
 use Rattle.dh_top.specs.Runs.{Input, DeskFailed, LacksMemory, Makes}
 use Rattle.dh_top.specs.declared.replies.Reply.{Reply}
 
@@ -52,14 +52,14 @@ pub record IsClosed (table : Shown) (ended : Ended) : Type 0 where
 -- an answer to a text by a command with these operands, over what was found by these desks; a failed device is told only where a
 -- failure was found
 pub record Answers (v : Verb) (ops : List Word) (text : List ℕ) (o : Outside) (w : Response) : Type 0 where
-  pub found : Record
-  pub finds : Finds v text o found
-  pub does : Does v ops text found w
-  pub devices : w.status ≡ status.Desk → 0 < failures found
+  pub found : List Record
+  pub finds : Finds v ops text o found
+  pub does : DoesAll v ops text found w
+  pub devices : w.status ≡ status.Desk → 0 < all_failures found
 
 -- a run with these words has this to write
 pub record IsMade (words : List Word) (input : Input) (o : Outside) (w : Response) : Type 0 where
-  pub found : Record
+  pub found : List Record
   pub makes : Makes words input o found w
   pub devices : w.status ≡ status.Desk → DeskFailed o
 
@@ -68,8 +68,8 @@ abbrev pub Performs : Command → List Word → Input → Outside → Response �
 Performs c ops input o w = (words : List Word) → command_of words ≡ Ok c → operand_words words ≡ ops → IsMade words input o w
 
 -- the same where memory is wanting
-abbrev pub Lacks : Command → Input → Outside → Type 0
-Lacks c input o = (words : List Word) → command_of words ≡ Ok c → LacksMemory words input o
+abbrev pub Lacks : Command → List Word → Input → Outside → Type 0
+Lacks c ops input o = (words : List Word) → command_of words ≡ Ok c → operand_words words ≡ ops → LacksMemory words input o
 
 -- what is told of these places and this text, and written so
 abbrev pub Tells : List (List ℕ) → List ℕ → Response → Type 0

@@ -11,7 +11,7 @@ use Rattle.dh_steps.specs.StepLines.{settled_line}
 -- the words are a command line of `steps`, by which the input is answered with this line and then `normal`
 abbrev pub TellsSettled : List Word → List ℕ → List ℕ → Type 0
 TellsSettled words input text =
-    (c : Command) × (r : Record) × (w : Response) × (command_of words ≡ Ok c) × (c.verb ≡ verb.Steps) × CommandAnswer words input r w
+    (c : Command) × (rs : List Record) × (w : Response) × (command_of words ≡ Ok c) × (c.verb ≡ verb.Steps) × CommandAnswer words input rs w
     × (w.out ≡ line text ++ line settled_line)
 
 -- Whatever places two command lines name, if both are answered with `normal` in the second line, they have the same first line.

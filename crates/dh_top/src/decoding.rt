@@ -1,14 +1,13 @@
 //! The command `decode`: from the binary form to the printed text.
 
 ghost use Rattle.std.specs.Prelude.{◌≡◌, ◌≤◌, List, length, IfOk, Ok, Err};
-ghost use Rattle.dh_command.specs.Answer.{Does, decoded};
+ghost use Rattle.dh_command.specs.Answer.{Does, decoded, nothing_found};
 ghost use Rattle.dh_command.specs.Words.{Word};
 ghost use Rattle.dh_syntax.specs.Expressions.Arity.{IsWellFormed};
 ghost use Rattle.dh_syntax.specs.Expressions.Bridge.{term};
 ghost use Rattle.dh_syntax.specs.Expressions.Nesting.{nesting};
 ghost use Rattle.dh_syntax.specs.Limits.{most_bytes};
 ghost use Rattle.dh_command.specs.declared.verbs.Verb.TheVariants as verbs;
-ghost use Rattle.dh_top.specs.Outside.{nothing_found};
 ghost use Rattle.dh_top.specs.Replies.{written};
 
 use crate::replies::{Reply, misspelling};

@@ -1,13 +1,12 @@
 //! The command `encode`: from a text to the binary form.
 
 ghost use Rattle.std.specs.Prelude.{◌≡◌, ◌≤◌, List, IfOk, Ok};
-ghost use Rattle.dh_command.specs.Answer.{Does, encoded};
+ghost use Rattle.dh_command.specs.Answer.{Does, encoded, nothing_found};
 ghost use Rattle.dh_command.specs.Words.{Word};
 ghost use Rattle.dh_syntax.specs.Expressions.Arity.{IsWellFormed};
 ghost use Rattle.dh_syntax.specs.Expressions.Bridge.{term};
 ghost use Rattle.dh_syntax.specs.Expressions.Nesting.{nesting};
 ghost use Rattle.dh_command.specs.declared.verbs.Verb.TheVariants as verbs;
-ghost use Rattle.dh_top.specs.Outside.{nothing_found};
 ghost use Rattle.dh_top.specs.Replies.{written};
 
 use crate::replies::{Reply, misspelling};

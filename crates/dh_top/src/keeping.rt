@@ -2,7 +2,7 @@
 
 ghost use Rattle.std.specs.Prelude.{◌≡◌, ◌≤◌, ◌<◌, ◌∷◌, [], All, OnOk, OnErr, List, length, map};
 ghost use Rattle.dh_syntax.specs.Limits.{most_entry_bytes};
-ghost use Rattle.dh_table.specs.Kept.{pair_of};
+ghost use Rattle.dh_record.specs.Kept.{pair_of};
 ghost use Rattle.dh_top.specs.Outside.{AtFirst, FilesAll, FilesSome, Pair};
 
 use dh_ports::{CacheEntry, Desk, DeskError, World};
@@ -24,7 +24,10 @@ fn keep_entry<W: World, D: Desk<W>>(desk: &mut D, entry: &CacheEntry) -> Result<
 }
 
 /// Keeps entries, in their order, until memory is wanting.
-fn keep_all<W: World, D: Desk<W>>(desk: &mut D, entries: &[CacheEntry]) -> Result<(), AllocError>
+pub(crate) fn keep_all<W: World, D: Desk<W>>(
+    desk: &mut D,
+    entries: &[CacheEntry],
+) -> Result<(), AllocError>
     requires { All (λ e. length e.bytes ≤ most_entry_bytes) entries.now }
     ensures kept { OnOk result (FilesAll (D.faults desk.old) (D.faults desk.new) (D.filed desk.old) (D.filed desk.new) (map pair_of entries.now)) }
     ensures part { OnErr result ((kept : List Pair) × FilesSome (D.filed desk.old) (D.filed desk.new) (map pair_of entries.now) kept) }

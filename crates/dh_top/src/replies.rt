@@ -1,14 +1,16 @@
 //! What a run replies to its words and its input.
 
-ghost use Rattle.std.specs.Prelude.{◌≡◌, ◌<◌, [], IfOk, OnErr, map, string_bytes, vec_len};
+ghost use Rattle.std.specs.Prelude.{◌≡◌, ◌<◌, false, [], IfOk, OnErr, map, string_bytes, vec_len};
 ghost use Rattle.dh_command.specs.Responses.{misused, unread, answer as answer_of, misspelt};
-ghost use Rattle.dh_command.specs.Words.{AreFit, command_of};
+ghost use Rattle.dh_command.specs.Words.{AreFit, command_of, takes_number};
 ghost use Rattle.dh_top.specs.Outside.{outside, desks_for, desks_of, FilesPart, UsesFirst};
 ghost use Rattle.dh_top.specs.Replies.{written, Answers, IsMade, Lacks, Performs};
 ghost use Rattle.dh_top.specs.Runs.{LacksMemory, reading};
 
+use crate::batch::batching;
 use crate::decoding::decoding;
 use crate::encoding::encoding;
+use crate::generating::generating;
 use crate::inputs::{InputFault, read_input};
 use crate::resolving::resolving;
 use crate::steps::stepping;
@@ -94,10 +96,11 @@ fn answer<
 ) -> Result<Reply, AllocError>
     requires some { 0 < vec_len desks.old }
     requires fit { AreFit command.verb (map string_bytes operands.now) }
+    requires no_number { takes_number command.verb ≡ false }
     ensures count { vec_len desks.new ≡ vec_len desks.old }
     ensures desks { UsesFirst (λ d. D.filed d) (desks_of command (vec_len desks.old)) desks.old.items desks.new.items }
     ensures answers { IfOk result (λ w. Answers command.verb (map string_bytes operands.now) input.now (outside W.told W.shelved (λ d. D.asked d) (λ d. D.faults d) (λ d. D.filed d) desks.old.items desks.new.items) (written w)) }
-    ensures lacks { OnErr result (FilesPart command.verb input.now (outside W.told W.shelved (λ d. D.asked d) (λ d. D.faults d) (λ d. D.filed d) desks.old.items desks.new.items)) }
+    ensures lacks { OnErr result (FilesPart command.verb (map string_bytes operands.now) input.now (outside W.told W.shelved (λ d. D.asked d) (λ d. D.faults d) (λ d. D.filed d) desks.old.items desks.new.items)) }
 {
     match command.verb {
         Verb::Encode => encoding(alloc, input),
@@ -105,7 +108,9 @@ fn answer<
         Verb::Resolve | Verb::Type | Verb::Normalize | Verb::Hash | Verb::ToJson | Verb::Freeze => {
             resolving::<R, W, D, G>(rt, alloc, command, input, desks, gate)
         }
+        Verb::Batch => { batching::<R, W, D, G>(rt, alloc, command, operands, input, desks, gate) }
         Verb::Steps => stepping(alloc, operands, input),
+        Verb::Gen => unreachable!(),
         Verb::Explain => explain(alloc, operands),
         Verb::Help => help(alloc),
         Verb::Version => version(alloc),
@@ -135,10 +140,13 @@ fn perform<
     ensures performs { IfOk result (λ w. Performs command (map string_bytes operands.now)
         (reading (I.left input.old) (I.left input.new) (I.faults input.old) (I.faults input.new))
         (outside W.told W.shelved (λ d. D.asked d) (λ d. D.faults d) (λ d. D.filed d) desks.old.items desks.new.items) (written w)) }
-    ensures lacks { OnErr result (Lacks command
+    ensures lacks { OnErr result (Lacks command (map string_bytes operands.now)
         (reading (I.left input.old) (I.left input.new) (I.faults input.old) (I.faults input.new))
         (outside W.told W.shelved (λ d. D.asked d) (λ d. D.faults d) (λ d. D.filed d) desks.old.items desks.new.items)) }
 {
+    if command.verb.takes_number() {
+        return generating::<R, G>(rt, alloc, command, operands, gate);
+    }
     if !command.verb.reads() {
         return answer::<R, W, D, G>(rt, alloc, command, operands, &[], desks, gate);
     }

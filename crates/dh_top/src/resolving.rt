@@ -12,7 +12,8 @@ ghost use Rattle.dh_imports.specs.Readings.{root_reading};
 ghost use Rattle.dh_imports.specs.Replay.{root_end};
 ghost use Rattle.dh_syntax.specs.Names.Indices.{IndicesBelow};
 ghost use Rattle.dh_syntax.specs.Text.Spelling.{ParsesTo};
-ghost use Rattle.dh_table.specs.Kept.{IsKeeping, pair_of};
+ghost use Rattle.dh_table.specs.Kept.{IsKeeping};
+ghost use Rattle.dh_record.specs.Kept.{pair_of};
 ghost use Rattle.dh_table.specs.States.{record_of, state_of};
 ghost use Rattle.dh_top.specs.Outside.{outside, desks_of, AtFirst, FilesAll, FilesPart, FilesSome, Pair, UsesFirst};
 ghost use Rattle.dh_top.specs.Replies.{written, Answers, IsClosed};
@@ -28,6 +29,7 @@ use dh_imports::Why;
 use dh_parse::parse;
 use dh_ports::{Desk, Gate, World};
 use dh_session::{Answered, SessionFault, resolve_all};
+use dh_shelf::Shelf;
 use dh_syntax::{Expr, ParseFault};
 use dh_table::{Ended, Table};
 use std::alloc::{AllocError, Global};
@@ -57,7 +59,7 @@ fn ready_reply<W: World>(
 }
 
 /// The reply to a closed table whose root ended so.
-fn ended_reply<W: World>(
+pub(crate) fn ended_reply<W: World>(
     alloc: Global,
     verb: Verb,
     text: &[u8],
@@ -101,7 +103,7 @@ fn answered_reply<W: World, D: Desk<W>>(
 }
 
 /// How many workers a run has that is asked for so many, with so many desks: at least one, and at most one for each desk.
-fn workers_for(wanted: u32, desks: usize) -> u32
+pub(crate) fn workers_for(wanted: u32, desks: usize) -> u32
     requires { 0 < desks }
     ensures { result ≡ max 1 (min wanted desks) }
 {
@@ -136,10 +138,11 @@ fn spelled_reply<
     ensures count { vec_len desks.new ≡ vec_len desks.old }
     ensures desks { UsesFirst (λ d. D.filed d) (desks_of command (vec_len desks.old)) desks.old.items desks.new.items }
     ensures answers { IfOk result (λ w. (ops : List Word) → Answers command.verb ops text.now (outside W.told W.shelved (λ d. D.asked d) (λ d. D.faults d) (λ d. D.filed d) desks.old.items desks.new.items) (written w)) }
-    ensures lacks { OnErr result (FilesPart command.verb text.now (outside W.told W.shelved (λ d. D.asked d) (λ d. D.faults d) (λ d. D.filed d) desks.old.items desks.new.items)) }
+    ensures lacks { OnErr result ((ops : List Word) → FilesPart command.verb ops text.now (outside W.told W.shelved (λ d. D.asked d) (λ d. D.faults d) (λ d. D.filed d) desks.old.items desks.new.items)) }
 {
     let workers = workers_for(command.workers, desks.len());
-    match resolve_all::<R, W, D, G>(rt, alloc, desks, workers, e, gate) {
+    let shelf = Shelf::new(alloc)?;
+    match resolve_all::<R, W, D, G>(rt, alloc, desks, workers, &shelf, e, gate) {
         Ok(answered) => {
             answered.table.tells();
             answered.table.is_replayed();
@@ -169,7 +172,7 @@ pub(crate) fn resolving<
     ensures count { vec_len desks.new ≡ vec_len desks.old }
     ensures desks { UsesFirst (λ d. D.filed d) (desks_of command (vec_len desks.old)) desks.old.items desks.new.items }
     ensures answers { IfOk result (λ w. (ops : List Word) → Answers command.verb ops text.now (outside W.told W.shelved (λ d. D.asked d) (λ d. D.faults d) (λ d. D.filed d) desks.old.items desks.new.items) (written w)) }
-    ensures lacks { OnErr result (FilesPart command.verb text.now (outside W.told W.shelved (λ d. D.asked d) (λ d. D.faults d) (λ d. D.filed d) desks.old.items desks.new.items)) }
+    ensures lacks { OnErr result ((ops : List Word) → FilesPart command.verb ops text.now (outside W.told W.shelved (λ d. D.asked d) (λ d. D.faults d) (λ d. D.filed d) desks.old.items desks.new.items)) }
 {
     match parse(alloc, text) {
         Ok(e) => spelled_reply::<R, W, D, G>(rt, alloc, command, text, e, desks, gate),

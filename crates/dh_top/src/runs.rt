@@ -3,7 +3,7 @@
 ghost use Rattle.std.specs.Prelude.{◌≡◌, ◌<◌, ◌⊎◌, IsTrue, map, string_bytes, vec_len};
 ghost use Rattle.dh_ports.specs.Counts.{Rose};
 ghost use Rattle.dh_command.specs.Words.{command_of};
-ghost use Rattle.dh_top.specs.Causes.{IsCaused, TellsOneLine, has_cause, is_refusal};
+ghost use Rattle.dh_top.specs.Causes.{IsCaused, TellsRefusal, has_cause, is_refusal};
 ghost use Rattle.dh_top.specs.Outside.{outside, desks_for, UsesFirst};
 ghost use Rattle.dh_top.specs.Runs.{Runs, AreMisused, DeskFailed, ReadFailed, reading, output};
 
@@ -16,8 +16,9 @@ use std::sync::Wait;
 use std::thread::Threads;
 
 /// Runs the command: reads its words and its input, resolves imports by the desks with as many workers as the words ask for (or one
-/// for each desk where there are fewer), keeps new entries of the cache at the first desk, and writes its answer. Nothing is written to
-/// standard output unless the answer is whole. Want of memory may come at any point; then `out of memory` stands on standard error.
+/// for each desk where there are fewer), keeps new entries of the cache at the first desk, and writes its answer. Nothing is
+/// written to standard output unless the answer is whole; that of `batch` is the line of each file, with its digest or its fault.
+/// Want of memory may come at any point; then `out of memory` stands on standard error.
 pub fn run_dhall<
     R: Threads + Wait + Sync,
     W: World + Send + Sync,
@@ -38,8 +39,9 @@ pub fn run_dhall<
 ) -> Status
     requires some { 0 < vec_len desks.old }
 
-    // What is written, and the status, are those of the answer over what the run found by its desks, or of a fault that came before
-    // it; and an input that the command answers over that succeeds where the streams work, unless memory is wanting.
+    // What is written, and the status, are those of the answer over what the run found by its desks (of `gen`, by desks of its
+    // own), or of a fault that came before it; and an input that the command answers over that succeeds where the streams work,
+    // unless memory is wanting.
     ensures runs { Runs (map string_bytes words.now)
         (reading (I.left input.old) (I.left input.new) (I.faults input.old) (I.faults input.new))
         (outside W.told W.shelved (λ d. D.asked d) (λ d. D.faults d) (λ d. D.filed d) desks.old.items desks.new.items)
@@ -58,8 +60,8 @@ pub fn run_dhall<
         (outside W.told W.shelved (λ d. D.asked d) (λ d. D.faults d) (λ d. D.filed d) desks.old.items desks.new.items) result }
 
     // With each status but `Ok` and `Write`, also where memory is wanting, standard output is as it was, and standard error has one
-    // line more: with `Memory` the line `out of memory`.
-    ensures one_line { IsTrue (is_refusal result) → TellsOneLine result
+    // line more: with `Memory` the line `out of memory`. Only `batch` may have written the lines of its files in place of that.
+    ensures one_line { IsTrue (is_refusal result) → TellsRefusal (map string_bytes words.now) result
         (output (O.written out.old) (O.written out.new) (O.faults out.old) (O.faults out.new))
         (output (E.written err.old) (E.written err.new) (E.faults err.old) (E.faults err.new)) }
 

@@ -1,7 +1,7 @@
 //! The command `steps`: one step at each place that its operands name.
 
 ghost use Rattle.std.specs.Prelude.{◌≡◌, ◌≤◌, ◌++◌, Ok, IfOk, IsOk, List, if◌then◌else◌, length, map, string_bytes};
-ghost use Rattle.dh_command.specs.Answer.{Does};
+ghost use Rattle.dh_command.specs.Answer.{Does, nothing_found};
 ghost use Rattle.dh_command.specs.Responses.{answer as answer_of, line};
 ghost use Rattle.dh_command.specs.declared.verbs.Verb.TheVariants as verbs;
 ghost use Rattle.dh_confluence.specs.FragmentSteps.{is_settled};
@@ -13,7 +13,6 @@ ghost use Rattle.dh_syntax.specs.Expressions.Spellable.{IsSpellable};
 ghost use Rattle.dh_syntax.specs.Normalising.Named.{put};
 ghost use Rattle.dh_syntax.specs.Text.Printed.{text_of};
 ghost use Rattle.dh_syntax.specs.Text.Spelling.{ParsesTo};
-ghost use Rattle.dh_top.specs.Outside.{nothing_found};
 ghost use Rattle.dh_top.specs.Replies.{written, IsStepFault, Tells};
 
 use crate::replies::{Reply, misspelling};

@@ -33,8 +33,10 @@ pub(crate) fn help(alloc: Global) -> Result<Reply, AllocError>
          normalize: prints its normal form\n\
          hash: prints the digest of its normal form\n\
          to-json: prints the JSON text of its normal form\n\
-         freeze: writes the input with a digest behind each import that has none\n\
+         freeze: writes the input with a digest after each import that has none\n\
+         batch FILE..: prints the name of each file, and the digest of its normal form or why it has none; reads no input\n\
          steps PLACE..: prints the expression after one step at each place, and whether it is normal\n\
+         gen N: prints how many imports and fetches the generated texts 0 to N take, N at most 4000, and the digest of their list; reads no input\n\
          explain [RULE]: prints what a rule of typing wants, or the list of the rules; reads no input\n\
          help, --help, -h: prints this page\n\
          --version: prints the version of the program and of the standard\n\
@@ -47,7 +49,7 @@ pub(crate) fn help(alloc: Global) -> Result<Reply, AllocError>
          status 6: the input could not be read\n\
          status 7: an output could not be written\n\
          status 8: an import could not be read\n\
-         status 9: memory was wanting\n\
+         status 9: out of memory\n\
          status 10: the normal form has no JSON value\n\
          status 11: a step cannot be made\n",
     )?;

@@ -149,8 +149,8 @@ fn typed_reply(alloc: Global, verb: Verb, e: &Expr, typed: &Expr) -> Result<Repl
         Verb::Normalize => normal_reply(alloc, e),
         Verb::Hash => hash_reply(alloc, e),
         Verb::ToJson => json_reply(alloc, e),
-        Verb::Encode | Verb::Decode | Verb::Resolve | Verb::Freeze => unreachable!(),
-        Verb::Steps | Verb::Explain | Verb::Help | Verb::Version => unreachable!(),
+        Verb::Encode | Verb::Decode | Verb::Resolve | Verb::Freeze | Verb::Batch => unreachable!(),
+        Verb::Steps | Verb::Gen | Verb::Explain | Verb::Help | Verb::Version => unreachable!(),
     }
 }
 

@@ -8,6 +8,8 @@ ghost use Rattle.dh_command.specs.Words.{verb_of, is_count, workers_of, operands
 
 use dh_command::{Command, Verb};
 use dh_explain::check_rule;
+use dh_files::check_files;
+use dh_gen::check_number;
 use dh_steps::check_places;
 use dh_syntax::{DEFAULT_WORKERS, MOST_WORKERS};
 
@@ -31,8 +33,12 @@ fn verb_named(word: &str) -> Option<Verb>
         Some(Verb::ToJson)
     } else if word == "freeze" {
         Some(Verb::Freeze)
+    } else if word == "batch" {
+        Some(Verb::Batch)
     } else if word == "steps" {
         Some(Verb::Steps)
+    } else if word == "gen" {
+        Some(Verb::Gen)
     } else if word == "explain" {
         Some(Verb::Explain)
     } else if word == "help" {
@@ -97,6 +103,10 @@ fn check_operands(verb: Verb, at: u32, rest: &[String]) -> Result<(), u32>
 {
     if verb.takes_rule() {
         check_rule(at, rest)
+    } else if verb.takes_files() {
+        check_files(at, rest)
+    } else if verb.takes_number() {
+        check_number(at, rest)
     } else {
         check_places(verb.most_operands(), at, rest)
     }

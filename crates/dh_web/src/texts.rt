@@ -12,8 +12,9 @@ use std::alloc::Global;
 use std::net::Net;
 use std::time::Duration;
 
-/// The text at a URL, over a connection of its own. It fails where the host has no address, where none of them answers, where
-/// the connection breaks, and where the peer is silent for [`PATIENCE_SECONDS`].
+/// The text at a URL, over a connection of its own; of the network a clause can say only that the text is short. It fails where the
+/// host has no address, where none of them answers, where the connection breaks, and where the peer is silent for
+/// [`PATIENCE_SECONDS`].
 pub fn web_text<R: Net>(rt: &R, alloc: Global, url: &Url) -> Result<Got, DeskError>
     ensures short { IfOk result IsShort }
 {

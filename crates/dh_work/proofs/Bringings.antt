@@ -22,16 +22,15 @@ use Rattle.dh_ports.specs.Counts.{Rose}
 use Rattle.dh_ports.specs.Desks.{Tells, shown}
 use Rattle.dh_ports.specs.declared.worlds.Got.{Got}
 use Rattle.dh_ports.specs.declared.worlds.Got.TheVariants as gots
-use Rattle.dh_table.specs.Brought.{IsSeen, IsShelved, IsScanned}
-use Rattle.dh_table.specs.Calls.{brings_failure, is_failed}
-use Rattle.dh_table.specs.Entries.{EntryParts}
-use Rattle.dh_table.specs.States.{news_of, seen_by}
-use Rattle.dh_table.specs.declared.entries.Seen.{Seen}
-use Rattle.dh_table.specs.declared.entries.Seen.TheVariants as seens
-use Rattle.dh_table.specs.declared.news.News.TheVariants as news
-use Rattle.dh_table.specs.declared.news.Noted.TheVariants as noteds
-use Rattle.dh_table.specs.declared.news.Parsed.{Parsed}
-use Rattle.dh_table.specs.declared.news.Parsed.TheVariants as parseds
+use Rattle.dh_record.specs.Brought.{IsSeen, IsShelved, IsScanned, brings_failure, is_failed, news_of}
+use Rattle.dh_record.specs.Entries.{EntryParts}
+use Rattle.dh_record.specs.Rows.{seen_by}
+use Rattle.dh_record.specs.declared.entries.Seen.{Seen}
+use Rattle.dh_record.specs.declared.entries.Seen.TheVariants as seens
+use Rattle.dh_record.specs.declared.news.News.TheVariants as news
+use Rattle.dh_record.specs.declared.news.Noted.TheVariants as noteds
+use Rattle.dh_record.specs.declared.news.Parsed.{Parsed}
+use Rattle.dh_record.specs.declared.news.Parsed.TheVariants as parseds
 use Rattle.dh_work.specs.Brings.{IsGoodAt, TellsFailure}
 use Rattle.dh_work.specs.Inside.Coming.{IsWhole}
 

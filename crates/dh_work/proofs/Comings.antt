@@ -49,12 +49,12 @@ use Rattle.dh_syntax.proofs.Bridge.{row_of-nil, term-Node}
 use Rattle.dh_import_laws.specs.ImportLaws.{ComesOf, normal, ill}
 use Rattle.dh_import_laws.proofs.CodeSteps.{code_comes}
 use Rattle.dh_infer.specs.NamedTypes.{IsTypeOf}
-use Rattle.dh_table.specs.declared.items.Body.{Body}
-use Rattle.dh_table.specs.declared.items.Body.TheVariants as body
-use Rattle.dh_table.specs.declared.items.Item.{Item}
-use Rattle.dh_table.specs.Items.{by_fault, by_body, comes, IsLast, IsLimit}
-use Rattle.dh_table.specs.Values.{IsValue, IsCode, HasValue}
-use Rattle.dh_table.proofs.Closed.{indices_more, value_indices}
+use Rattle.dh_record.specs.declared.items.Body.{Body}
+use Rattle.dh_record.specs.declared.items.Body.TheVariants as body
+use Rattle.dh_record.specs.declared.items.Item.{Item}
+use Rattle.dh_record.specs.Items.{by_fault, by_body, comes, IsLast, IsLimit}
+use Rattle.dh_record.specs.Values.{IsValue, IsCode, HasValue}
+use Rattle.dh_record.proofs.Closed.{indices_more, value_indices}
 use Rattle.dh_work.specs.declared.codes.Came.{Came}
 use Rattle.dh_work.specs.declared.codes.Came.TheVariants as cames
 use Rattle.dh_work.specs.Inside.Coming.{IsCame, IsCodeCame}

@@ -5,3 +5,4 @@ pub mod NormalClosed
 pub mod BuiltNodes
 pub mod Bringings
 pub mod Comings
+pub mod Told

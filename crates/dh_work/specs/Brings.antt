@@ -6,11 +6,10 @@ use Rattle.dh_syntax.specs.Expressions.Tree.{Term}
 use Rattle.dh_imports.specs.Records as found
 use Rattle.dh_imports.specs.Records.{IsGood}
 use Rattle.dh_ports.specs.Counts.{Rose}
-use Rattle.dh_table.specs.Calls.{brings_failure}
-use Rattle.dh_table.specs.Entries.{EntryParts}
-use Rattle.dh_table.specs.States.{news_of}
-use Rattle.dh_table.specs.declared.news.News.{News}
-use Rattle.dh_table.specs.declared.news.News.TheVariants as news
+use Rattle.dh_record.specs.Brought.{brings_failure, news_of}
+use Rattle.dh_record.specs.Entries.{EntryParts}
+use Rattle.dh_record.specs.declared.news.News.{News}
+use Rattle.dh_record.specs.declared.news.News.TheVariants as news
 
 -- a text at this location
 abbrev pub IsTextAt : Loc → News → Type 0

@@ -12,7 +12,7 @@ ghost use Rattle.dh_syntax.specs.Limits.{most_nesting, whole_purse};
 ghost use Rattle.dh_syntax.specs.Normalising.Named.{names};
 ghost use Rattle.dh_syntax.specs.Normalising.Normal.{HasNormalForm, IsLicensed};
 ghost use Rattle.dh_syntax.specs.Typing.NamedTyping.{IsTypeFault};
-ghost use Rattle.dh_table.specs.Values.{IsCode};
+ghost use Rattle.dh_record.specs.Values.{IsCode};
 ghost use Rattle.dh_work.specs.Inside.Coming.{IsCodeCame};
 
 use crate::outcomes::{fetched, own_fault};

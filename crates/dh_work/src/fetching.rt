@@ -2,15 +2,15 @@
 
 ghost use Rattle.std.specs.Prelude.{◌≡◌, ◌≤◌, IfOk};
 ghost use Rattle.dh_ports.specs.Counts.{one_more};
-ghost use Rattle.dh_table.specs.Brought.{BringsText, IsParse, IsScanned};
-ghost use Rattle.dh_table.specs.declared.news.Noted.TheVariants as noteds;
+ghost use Rattle.dh_record.specs.Brought.{BringsText, IsParse, IsScanned};
+ghost use Rattle.dh_record.specs.declared.news.Noted.TheVariants as noteds;
 ghost use Rattle.dh_work.specs.Brings.{IsTextAt, TellsFailure};
 
 use dh_demand::import_keys;
 use dh_parse::parse;
 use dh_ports::{Desk, DeskError, Got, World};
+use dh_record::{News, Noted, Parsed};
 use dh_syntax::{Loc, ParseFault};
-use dh_table::{News, Noted, Parsed};
 use std::alloc::{AllocError, Global};
 
 /// What a desk finds at a location, with what it parses to and the keys of its imports ("Import resolution"); or that the device

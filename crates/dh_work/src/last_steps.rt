@@ -6,7 +6,7 @@ ghost use Rattle.dh_syntax.specs.Expressions.SameTree.{digest_eq};
 ghost use Rattle.dh_imports.specs.LastStep as last;
 ghost use Rattle.dh_imports.specs.Outcomes.{Good, plain};
 ghost use Rattle.dh_imports.specs.declared.outcomes.Origin.TheVariants as origins;
-ghost use Rattle.dh_table.specs.Values.{HasValue, IsFit, IsValue};
+ghost use Rattle.dh_record.specs.Values.{HasValue, IsFit, IsValue};
 ghost use Rattle.dh_work.specs.Inside.Coming.{IsCame};
 
 use crate::codes::{Came, code_came};
@@ -15,8 +15,8 @@ use crate::outcomes::own_fault;
 use crate::texts::text_outcome;
 use dh_digest::digest;
 use dh_imports::{Origin, Outcome, Why};
+use dh_record::{Body, Done, Item};
 use dh_syntax::{Digest, Expr, Key, Loc, copy};
-use dh_table::{Body, Done, Item};
 use std::alloc::{AllocError, Global};
 
 /// What comes of a key by its item, or a limit that is licensed for the item ("Import resolution"; the type of the answer says so).

@@ -4,7 +4,7 @@
 //! ```text
 //! match work {
 //!     Work::Fetch(loc) => fetch_text(alloc, desk, loc)?,
-//!     Work::Look(digest) => look_up(alloc, desk, digest)?,
+//!     Work::Look(digest) => look_up(alloc, desk, visit, digest)?,
 //!     Work::Finish(item) => News::Finished(work_item(alloc, item)?),
 //! }
 //! ```

@@ -1,6 +1,6 @@
-//! Entries of the cache are looked up.
+//! Entries of the cache are looked up: on the shelf first, then at a desk.
 
-ghost use Rattle.std.specs.Prelude.{◌≡◌, ◌≤◌, ◌↔◌, [], None, false, IfOk, IfSome, IsTrue, MatchOption};
+ghost use Rattle.std.specs.Prelude.{◌≡◌, ◌≤◌, ◌↔◌, [], None, false, IfOk, IfSome, IsTrue, MatchOption, option_map};
 ghost use Rattle.sha2.specs.Sha256.{sha256};
 ghost use Rattle.dh_syntax.specs.Expressions.Arity.{IsWellFormed};
 ghost use Rattle.dh_syntax.specs.Expressions.Bridge.{term};
@@ -8,9 +8,10 @@ ghost use Rattle.dh_syntax.specs.Expressions.Nesting.{nesting};
 ghost use Rattle.dh_syntax.specs.Expressions.Tree.{Term};
 ghost use Rattle.dh_imports.specs.Records.{IsClosed};
 ghost use Rattle.dh_imports.specs.Walk.{keys_of};
-ghost use Rattle.dh_table.specs.Brought.{BringsLook, IsOfDigest, IsSeen};
-ghost use Rattle.dh_table.specs.Calls.{is_failed};
-ghost use Rattle.dh_table.specs.States.{seen_by};
+ghost use Rattle.dh_ports.specs.Desks.{Tells, shown};
+ghost use Rattle.dh_record.specs.Brought.{BringsLook, IsOfDigest, IsShelved, is_failed};
+ghost use Rattle.dh_record.specs.Rows.{seen_by};
+ghost use Rattle.dh_shelf.specs.Shelves.{Grows, IsToldEntry};
 ghost use Rattle.dh_work.specs.Inside.Coming.{IsWhole};
 ghost use Rattle.dh_work.specs.Brings.{IsGoodAt, IsLookOf, TellsFailure};
 
@@ -18,8 +19,9 @@ use crate::closed::is_closed;
 use dh_decode::decode;
 use dh_demand::import_keys;
 use dh_ports::{Desk, DeskError, World};
-use dh_syntax::{Bytes, DecodeFault, Digest, Expr};
-use dh_table::{Entry, News, Seen};
+use dh_record::{Entry, News, Seen};
+use dh_shelf::{MOST_SHELVED_BYTES, Visit};
+use dh_syntax::{Bytes, DecodeFault, Digest, Expr, copy};
 use sha2::Sha256;
 use std::alloc::{AllocError, Global};
 
@@ -82,10 +84,12 @@ fn is_whole(alloc: Global, e: &Expr) -> Result<bool, AllocError>
     is_closed(alloc, e)
 }
 
-/// What a desk has in the cache under a digest: a good entry, none, or that the device failed.
+/// What the shelf or else a desk has in the cache under a digest: a good entry, none, or that the device failed. A good entry that a
+/// desk has goes on the shelf, if it is small enough.
 pub fn look_up<W: World, D: Desk<W>>(
     alloc: Global,
     desk: &mut D,
+    visit: &mut Visit<'_, W>,
     digest: Digest,
 ) -> Result<News, AllocError>
     ensures brings { IfOk result (λ news. BringsLook W.shelved news) }
@@ -94,10 +98,16 @@ pub fn look_up<W: World, D: Desk<W>>(
     ensures filed { D.filed desk.new ≡ D.filed desk.old }
     ensures counted { D.faults desk.old ≤ D.faults desk.new }
     ensures failed { IfOk result (λ news. TellsFailure news (D.faults desk.old) (D.faults desk.new)) }
+    ensures of_this { visit.new.cells ≡ visit.old.cells }
+    ensures keeps { Grows visit.old.seen visit.new.seen }
 {
+    if let Some(entry) = visit.get(&digest) {
+        let look = Seen::Good(copied(alloc, entry)?);
+        return Ok(News::Looked { digest, look });
+    }
     match desk.look(alloc, &digest) {
         Ok(found) => {
-            let look = seen(alloc, digest, found)?;
+            let look = seen(alloc, visit, digest, found)?;
             Ok(News::Looked { digest, look })
         }
         Err(DeskError::Failed) => Ok(News::Looked {
@@ -108,17 +118,54 @@ pub fn look_up<W: World, D: Desk<W>>(
     }
 }
 
-/// What is seen of the bytes under a digest, if there are any.
-fn seen(alloc: Global, digest: Digest, found: Option<Bytes>) -> Result<Seen, AllocError>
+/// What is seen of the bytes that a desk has under a digest, if it has any. A good entry goes on the shelf.
+#[tactic(auto, using(crate::proofs::Told::seen_shelved, crate::proofs::Told::entry_is_told))]
+fn seen<W: World>(
+    alloc: Global,
+    visit: &mut Visit<'_, W>,
+    digest: Digest,
+    found: Option<Bytes>,
+) -> Result<Seen, AllocError>
+    requires { Tells (option_map shown (W.shelved digest)) found }
     ensures of_digest { IfOk result (λ look. IsOfDigest digest look) }
-    ensures seen { IfOk result (λ look. IsSeen digest found look) }
+    ensures shelved { IfOk result (λ look. IsShelved digest (W.shelved digest) look) }
     ensures answers { IfOk result (λ look. is_failed (seen_by look) ≡ false) }
+    ensures of_this { visit.new.cells ≡ visit.old.cells }
+    ensures keeps { Grows visit.old.seen visit.new.seen }
 {
     let Some(bytes) = found else {
         return Ok(Seen::Miss);
     };
     match good_entry(alloc, digest, bytes)? {
-        Some(entry) => Ok(Seen::Good(entry)),
+        Some(entry) => {
+            shelve(alloc, visit, &entry);
+            Ok(Seen::Good(entry))
+        }
         None => Ok(Seen::Miss),
+    }
+}
+
+/// An equal entry.
+fn copied(alloc: Global, entry: &Entry) -> Result<Entry, AllocError>
+    ensures { IfOk result (λ e. e ≡ entry.now) }
+{
+    entry.is_good();
+    entry.is_value();
+    let bytes = entry.bytes().copied(alloc)?;
+    let expr = copy(alloc, entry.expr())?;
+    Ok(Entry::of(entry.digest(), bytes, expr))
+}
+
+/// Puts a copy of an entry on the shelf, if it is small enough and there are memory and room for it.
+fn shelve<W: World>(alloc: Global, visit: &mut Visit<'_, W>, entry: &Entry)
+    requires { IsToldEntry W.shelved entry.now }
+    ensures of_this { visit.new.cells ≡ visit.old.cells }
+    ensures keeps { Grows visit.old.seen visit.new.seen }
+{
+    if entry.bytes().as_slice().len() > MOST_SHELVED_BYTES {
+        return;
+    }
+    if let Ok(entry) = copied(alloc, entry) {
+        let _put = visit.put(entry);
     }
 }

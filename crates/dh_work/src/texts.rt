@@ -5,7 +5,7 @@ ghost use Rattle.dh_syntax.specs.Expressions.Forms as form;
 ghost use Rattle.dh_imports.specs.LastStep as last;
 ghost use Rattle.dh_imports.specs.Outcomes.{Good, plain};
 ghost use Rattle.dh_imports.specs.declared.outcomes.Origin.TheVariants as origins;
-ghost use Rattle.dh_table.specs.Values.{HasValue};
+ghost use Rattle.dh_record.specs.Values.{HasValue};
 
 use crate::literals::plain_text;
 use crate::outcomes::{fetched, own_fault};

@@ -1,5 +1,5 @@
 -- Worked examples of words, of the lines that faults have, and of what is written.
-use Rattle.std.specs.Prelude.{◌≡◌, true, [], ◌∷◌, map, None, Ok, Err, codes, refl}
+use Rattle.std.specs.Prelude.{◌≡◌, true, false, [], ◌∷◌, map, None, Ok, Err, codes, refl}
 use Rattle.std.specs.Fmt.{digits}
 use Rattle.dh_syntax.specs.declared.expressions.Op.TheVariants as ops
 use Rattle.dh_syntax.specs.declared.faults.DecodeFault.TheVariants as decode
@@ -13,6 +13,7 @@ use Rattle.dh_command.specs.Statuses.{code_of}
 use Rattle.dh_syntax.specs.Expressions.Tree.{Node, end}
 use Rattle.dh_command.specs.StepsReplies.{AreNamed}
 use Rattle.dh_command.specs.Words.{command_of, operand_words, workers_of}
+use Rattle.dh_files.specs.FileWords.{is_file, operand_files}
 use Rattle.dh_command.specs.declared.verbs.Verb.TheVariants as verb
 
 no_words : command_of [] ≡ Err 1
@@ -39,6 +40,28 @@ freeze_with_workers = refl
 
 to_json_alone : command_of (codes "to-json" ∷ []) ≡ Ok (record { verb = verb.ToJson; workers = 4 })
 to_json_alone = refl
+
+-- files are the operands of `batch`: at least one, each a location
+batch_alone : command_of (codes "batch" ∷ []) ≡ Err 2
+batch_alone = refl
+
+batch_of_files : command_of (codes "batch" ∷ codes "a" ∷ codes "../b/c" ∷ []) ≡ Ok (record { verb = verb.Batch; workers = 4 })
+batch_of_files = refl
+
+batch_of_no_file : command_of (codes "batch" ∷ codes "a" ∷ codes "b/" ∷ []) ≡ Err 3
+batch_of_no_file = refl
+
+batch_with_workers_alone : command_of (codes "batch" ∷ codes "--workers" ∷ codes "2" ∷ []) ≡ Err 4
+batch_with_workers_alone = refl
+
+-- the texts that words of files stand for
+files_named :
+    operand_files 2 (codes "a" ∷ codes "./b" ∷ codes "../c" ∷ codes "~/d" ∷ codes "/e/f" ∷ codes "..g" ∷ codes "\"a b\"" ∷ [])
+    ≡ Ok (codes "./a" ∷ codes "./b" ∷ codes "../c" ∷ codes "~/d" ∷ codes "/e/f" ∷ codes "./..g" ∷ codes "./\"a b\"" ∷ [])
+files_named = refl
+
+no_files : map is_file (codes "" ∷ codes "/" ∷ codes "a//b" ∷ codes "a b" ∷ codes "a?" ∷ codes "\"" ∷ []) ≡ false ∷ false ∷ false ∷ false ∷ false ∷ false ∷ []
+no_files = refl
 
 -- places are the operands of `steps`
 steps_alone : command_of (codes "steps" ∷ []) ≡ Ok (record { verb = verb.Steps; workers = 4 })

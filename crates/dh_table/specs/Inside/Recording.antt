@@ -1,36 +1,17 @@
 -- What is recorded of what workers bring.
-use Rattle.std.specs.Prelude.{◌≡◌, ◌<◌, ℕ, List, [], length, map, reverse, Option, Some, None, Result, Ok, Err}
-use Rattle.dh_syntax.specs.declared.faults.ParseFault.{ParseFault}
-use Rattle.dh_syntax.specs.declared.locations.Key.{Key}
+use Rattle.std.specs.Prelude.{◌≡◌, ◌<◌, ℕ, List, length, map, reverse, Some}
 use Rattle.dh_syntax.specs.Expressions.Numbers.{eq}
 use Rattle.dh_imports.specs.Machine as machine
 use Rattle.dh_imports.specs.Machine.{InFlight, State, Task, stage_of}
 use Rattle.dh_imports.specs.Records.{lookup}
-use Rattle.dh_demand.specs.declared.scans.Edge.{Edge}
-use Rattle.dh_demand.specs.declared.scans.Scan.{Scan}
 use Rattle.dh_table.specs.declared.flights.Name.{Name}
 use Rattle.dh_table.specs.declared.flights.Name.TheVariants as names
-use Rattle.dh_table.specs.declared.items.Item.{Item}
-use Rattle.dh_table.specs.declared.news.Parsed.{Parsed}
-use Rattle.dh_table.specs.declared.news.Parsed.TheVariants as parseds
+use Rattle.dh_record.specs.declared.items.Item.{Item}
 use Rattle.dh_table.specs.declared.steps.Flight.{Flight}
-use Rattle.dh_table.specs.declared.texts.Entrant.{Entrant}
-use Rattle.dh_table.specs.Items.{stage_of_item}
-use Rattle.dh_table.specs.States.{key_named, task_of, flight_of}
-
--- ---- texts
-
--- the keys of the imports of a text
-abbrev pub imports_of : Option Parsed → List Key
-imports_of (Some (parseds.Good e ks)) = ks
-imports_of (Some (parseds.Bad f)) = []
-imports_of None = []
-
--- what a table keeps of a text, with the edges of its imports
-abbrev pub read_of : Option Parsed → List Edge → Option (Result Scan ParseFault)
-read_of (Some (parseds.Good e ks)) edges = Some (Ok (record { expr = e; edges = edges }))
-read_of (Some (parseds.Bad f)) edges = Some (Err f)
-read_of None edges = None
+use Rattle.dh_record.specs.declared.rows.recorded.Entrant.{Entrant}
+use Rattle.dh_record.specs.Items.{stage_of_item}
+use Rattle.dh_record.specs.Rows.{key_named}
+use Rattle.dh_table.specs.States.{task_of, flight_of}
 
 -- ---- flights
 

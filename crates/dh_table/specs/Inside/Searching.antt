@@ -1,5 +1,5 @@
 -- The search for an open task.
-use Rattle.std.specs.Prelude.{◌≡◌, ◌⊎◌, ◌<◌, ◌≤◌, ◌+◌, ℕ, zero, suc, Bool, true, false, if◌then◌else◌, sum_by, List, [], length, map, reverse, slice_index_or, Option, Some, None, is_none}
+use Rattle.std.specs.Prelude.{◌≡◌, ◌⊎◌, ◌<◌, ◌≤◌, ◌+◌, ℕ, zero, suc, Bool, true, false, sum_by, List, length, map, reverse, slice_index_or, Option, Some, None, is_none, []}
 use Rattle.dh_syntax.specs.declared.locations.Key.{Key}
 use Rattle.dh_syntax.specs.declared.locations.Loc.{Loc}
 use Rattle.dh_imports.specs.declared.outcomes.Origin.{Origin}
@@ -21,11 +21,13 @@ use Rattle.dh_table.specs.declared.searches.Tried.{Tried}
 use Rattle.dh_table.specs.declared.searches.Tried.TheVariants as tries
 use Rattle.dh_table.specs.declared.steps.Flight.{Flight}
 use Rattle.dh_table.specs.declared.steps.Job.{Job}
-use Rattle.dh_table.specs.declared.texts.Entrant.{Entrant}
-use Rattle.dh_table.specs.declared.texts.Look.{Look}
-use Rattle.dh_table.specs.declared.texts.Text.{Text}
+use Rattle.dh_record.specs.declared.rows.recorded.Entrant.{Entrant}
+use Rattle.dh_record.specs.declared.rows.recorded.Look.{Look}
+use Rattle.dh_record.specs.declared.rows.recorded.Text.{Text}
 use Rattle.dh_table.specs.Inside.Piling.{IsBare, number_at}
-use Rattle.dh_table.specs.States.{IsFrozenLook, rows_of, key_named, task_of, flight_of, text_of, look_of}
+use Rattle.dh_table.specs.States.{IsFrozenLook, task_of, flight_of}
+use Rattle.dh_record.specs.Rows.{rows_of, key_named, text_of, look_of}
+use Rattle.dh_record.specs.Marks.{is_set}
 
 -- the state has these keys, texts, looks and flights
 pub record Stands (keys : List Entrant) (texts : List Text) (looks : List Look) (flights : List Flight) (s : State) : Type 0 where
@@ -50,15 +52,6 @@ IsTaskAt k (Lacks (LookOf d)) t = t ≡ machine.Look d
 IsTaskAt k (Has i) t = t ≡ machine.Finish k
 IsTaskAt k (Meets j) t = t ≡ machine.Finish k
 IsTaskAt k (Waits y) t = ⊥
-
-abbrev pub is_set : List Bool → ℕ → Bool
-is_set marks n = slice_index_or marks n false
-
--- the key has a mark
-pub record IsMarked (keys : List Entrant) (marks : List Bool) (k : Key) : Type 0 where
-  pub number : ℕ
-  pub number_is : number_of (rows_of keys) k ≡ Some number
-  pub set : is_set marks number ≡ true
 
 -- the key is on a pile, or was taken from one
 pub record IsPlaced (keys : List Entrant) (places : List ℕ) (k : Key) : Type 0 where
@@ -166,13 +159,6 @@ is_open_origin l origins.Made = true
 abbrev pub is_open_value : Loc → program.Outcome → Bool
 is_open_value l (outcomes.Good v o) = is_open_origin l o
 is_open_value l (outcomes.Bad b) = false
-
-abbrev pub one_unless : Bool → ℕ
-one_unless b = if b then 0 else 1
-
--- how many were not seen
-abbrev pub unseen : List Bool → ℕ
-unseen bs = sum_by one_unless bs
 
 -- ---- loops
 

@@ -10,9 +10,9 @@ use Rattle.dh_imports.specs.Records.{IsClosed}
 use Rattle.dh_imports.specs.Resolver.{Has}
 use Rattle.dh_imports.specs.Walk.{keys_of}
 use Rattle.dh_import_laws.specs.ImportLaws.{ComesOf}
-use Rattle.dh_table.specs.declared.items.Item.{Item}
-use Rattle.dh_table.specs.Items.{IsLast, IsLimit}
-use Rattle.dh_table.specs.Values.{HasValue}
+use Rattle.dh_record.specs.declared.items.Item.{Item}
+use Rattle.dh_record.specs.Items.{IsLast, IsLimit}
+use Rattle.dh_record.specs.Values.{HasValue}
 use Rattle.dh_work.specs.declared.codes.Came.{Came}
 use Rattle.dh_work.specs.declared.codes.Came.TheVariants as cames
 

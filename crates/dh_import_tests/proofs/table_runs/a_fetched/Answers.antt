@@ -12,9 +12,9 @@ use Rattle.dh_syntax.specs.Text.Derivation.{import, path}
 use Rattle.dh_syntax.specs.Text.Lexing.{lex}
 use Rattle.dh_syntax.specs.Text.Spelling.{ParsesTo, Spells}
 use lib.Utf8.{encode}
-use Rattle.dh_table.specs.declared.news.Noted.{Noted}
-use Rattle.dh_table.specs.declared.news.Parsed.TheVariants as parseds
-use Rattle.dh_table.specs.Brought.{IsScanned, IsTold}
+use Rattle.dh_record.specs.declared.news.Noted.{Noted}
+use Rattle.dh_record.specs.declared.news.Parsed.TheVariants as parseds
+use Rattle.dh_record.specs.Brought.{IsScanned, IsTold}
 use Rattle.dh_import_tests.proofs.table_runs.a_fetched.Goals as goal
 
 abbrev link : Term

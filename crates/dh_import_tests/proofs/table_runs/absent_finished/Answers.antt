@@ -9,8 +9,8 @@ use Rattle.dh_imports.specs.declared.outcomes.Why.TheVariants as whys
 use Rattle.dh_imports.specs.LastStep as last
 use Rattle.dh_imports.specs.LastStep.{last_step}
 use Rattle.dh_imports.specs.Outcomes.{Bad}
-use Rattle.dh_table.specs.declared.items.Body.TheVariants as body
-use Rattle.dh_table.specs.Items.{IsLast}
+use Rattle.dh_record.specs.declared.items.Body.TheVariants as body
+use Rattle.dh_record.specs.Items.{IsLast}
 use Rattle.dh_import_tests.proofs.table_runs.absent_finished.Goals as goal
 
 abbrev fault : List ℕ → Blame

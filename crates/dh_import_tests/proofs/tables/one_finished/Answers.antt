@@ -8,7 +8,7 @@ use Rattle.dh_syntax.specs.Expressions.Tree.{Node, end, Term}
 use Rattle.dh_imports.specs.LastStep as last
 use Rattle.dh_imports.specs.LastStep.{last_step}
 use Rattle.dh_imports.specs.Outcomes.{Good}
-use Rattle.dh_table.specs.Values.{IsValue}
+use Rattle.dh_record.specs.Values.{IsValue}
 use Rattle.dh_import_tests.proofs.tables.one_finished.Goals as goal
 
 abbrev literal : Term

@@ -1,5 +1,5 @@
 use Rattle.std.specs.Prelude.{◌≡◌, ◌≤◌, ◌-◌, ℕ, length, max}
-use Rattle.dh_table.specs.Inside.Searching.{is_set}
+use Rattle.dh_record.specs.Marks.{is_set}
 use Rattle.dh_table.proofs.explored.mark_all.Given as goal
 
 abbrev pub invariant-loop-marks : goal.invariant-loop-marks

@@ -3,7 +3,7 @@ use Rattle.std.specs.Option.{option_map}
 use Rattle.dh_table.specs.States.{task_of}
 use borrow.Author.Count.{below_more}
 use Rattle.dh_table.specs.declared.steps.Flight.{Flight}
-use Rattle.dh_table.specs.declared.steps.Kind.TheVariants as kinds
+use Rattle.dh_record.specs.declared.kinds.Kind.TheVariants as kinds
 use Rattle.dh_table.specs.Inside.Recording.{task_named, IsFlightOf}
 use Rattle.dh_table.proofs.Tasks.{flight_nowhere, not_own, not_last, not_there}
 use Rattle.dh_table.proofs.flights.flight_at.Goals as goal

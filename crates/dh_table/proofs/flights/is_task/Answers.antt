@@ -1,7 +1,7 @@
-use Rattle.dh_table.specs.declared.steps.Kind.TheVariants as kinds
+use Rattle.dh_record.specs.declared.kinds.Kind.TheVariants as kinds
 use Rattle.dh_table.specs.declared.flights.Name.TheVariants as names
-use Rattle.dh_table.specs.States.{digest_or_none}
-use Rattle.dh_table.proofs.Reading.{key_at_names}
+use Rattle.dh_record.specs.Rows.{digest_or_none}
+use Rattle.dh_record.proofs.Reading.{key_at_names}
 use Rattle.dh_table.proofs.Tasks.{same_fetch, same_look, same_finish, same_named}
 use Rattle.dh_table.proofs.flights.is_task.Goals as goal
 

@@ -9,11 +9,12 @@ use Rattle.dh_demand.specs.declared.scans.Edge.{Edge}
 use Rattle.dh_demand.specs.Results.{ask_of}
 use Rattle.dh_demand.specs.Scans.{text_key}
 use Rattle.dh_demand.specs.Wants.{HasNumber}
-use Rattle.dh_table.specs.Inside.Reading.{IsPlan}
+use Rattle.dh_record.specs.Reading.{IsPlan}
 use Rattle.dh_table.specs.Inside.Searching.{ArePut, HasEdge}
-use Rattle.dh_table.specs.States.{rows_of, key_named, row_of_entrant}
-use Rattle.dh_table.proofs.Reading.{key_at_names}
-use Rattle.dh_table.proofs.Reaching.{asked_inside, ask_put, ask_put_none, walk_leads}
+use Rattle.dh_record.specs.Rows.{rows_of, key_named, row_of_entrant}
+use Rattle.dh_record.proofs.Reading.{key_at_names}
+use Rattle.dh_record.proofs.Reaching.{asked_inside, walk_leads}
+use Rattle.dh_table.proofs.Leading.{ask_put, ask_put_none}
 use Rattle.dh_table.proofs.leads.lead.Goals as goal
 
 pub outcome-requires : goal.outcome-requires
@@ -37,7 +38,7 @@ returns-in-Walk-clause-put c p h =
     let k = key_named c.args.keys.now c.args.n in
     let old = c.args.explored.now.piles in
     let new = c.put_wanted.new.explored.piles in
-    along (λ ks. ArePut rows ks old new) (sym (walk_leads rows k p c.in-Walk.scan (along (λ x. IsPlan rows k p x) c.in-Walk.is h)))
+    along (λ ks. ArePut rows ks old new) (sym (walk_leads rows k p c.in-Walk.scan c.in-Walk._allow (along (λ x. IsPlan rows k p x) c.in-Walk.is h)))
     (along (λ (j : Key). ArePut rows (wants (text_key (Some j.loc)) (ask_of rows) (term c.in-Walk.scan.now.expr)) old new) (sym (key_at_names c.args.keys.now c.args.n c.key.result.now c.key.ensures)) c.put_wanted.ensures.put)
 
 pub returns-in-Walk-clause-one : goal.returns-in-Walk-clause-one
@@ -49,7 +50,7 @@ returns-in-Walk-clause-one c p h led =
     elim c.pick.ensures [
       | inl first ↦ along (HasNumber rows (leads_by (ask_of rows) k p)) (sym first) led
       | inr (edge, set) ↦
-          along (λ ks. HasNumber rows ks one) (sym (walk_leads rows k p scan (along (λ x. IsPlan rows k p x) c.in-Walk.is h)))
+          along (λ ks. HasNumber rows ks one) (sym (walk_leads rows k p scan c.in-Walk._allow (along (λ x. IsPlan rows k p x) c.in-Walk.is h)))
           (along (λ (j : Key). HasNumber rows (wants (text_key (Some j.loc)) (ask_of rows) (term scan.now.expr)) one) (sym (key_at_names c.args.keys.now c.args.n c.key.result.now c.key.ensures))
           (c.put_wanted.ensures.marked one (along (λ (es : List Edge). HasEdge (length es) es one) c.as_slice.ensures edge) set))
     ]

@@ -5,8 +5,9 @@ use Rattle.std.proofs.lemmas.List.{length-map}
 use Rattle.dh_syntax.specs.Expressions.Bridge.{term}
 use Rattle.dh_demand.specs.declared.scans.Edge.{Edge}
 use Rattle.dh_demand.specs.Results.{ask_of}
-use Rattle.dh_table.specs.Inside.Searching.{AreEdgesPut, HasEdge, is_set}
-use Rattle.dh_table.specs.States.{rows_of, row_of_entrant}
+use Rattle.dh_table.specs.Inside.Searching.{AreEdgesPut, HasEdge}
+use Rattle.dh_record.specs.Marks.{is_set}
+use Rattle.dh_record.specs.Rows.{rows_of, row_of_entrant}
 use Rattle.dh_table.proofs.Searched.{wants_put}
 use Rattle.dh_table.proofs.leads.put_wanted.Goals as goal
 

@@ -1,5 +1,6 @@
 use Rattle.std.specs.Prelude.{◌≡◌, ℕ, false, length}
-use Rattle.dh_table.specs.Inside.Searching.{HasEdge, is_set}
+use Rattle.dh_table.specs.Inside.Searching.{HasEdge}
+use Rattle.dh_record.specs.Marks.{is_set}
 use Rattle.dh_table.proofs.leads.unmark.Given as goal
 
 abbrev pub invariant-loop-edge : goal.invariant-loop-edge

@@ -1,8 +1,7 @@
-use Rattle.dh_table.specs.States.{key_named}
+use Rattle.dh_record.specs.Rows.{key_named, rows_of}
 use Rattle.dh_imports.specs.Resolver.{stage}
 use Rattle.dh_demand.specs.Results.{ask_of}
-use Rattle.dh_table.specs.Inside.Reading.{record_by}
-use Rattle.dh_table.specs.States.{rows_of}
+use Rattle.dh_record.specs.Reading.{record_by}
 use Rattle.dh_table.proofs.Looping.{next_stuck, nothing_due, reach_inside}
 use Rattle.dh_table.proofs.loops.blocking.Goals as goal
 

@@ -1,6 +1,6 @@
 use Rattle.std.specs.Prelude.{◌≡◌, ◌<◌, length, map, reverse, take}
 use Rattle.dh_imports.specs.Resolver.{least_back_to}
-use Rattle.dh_table.specs.States.{key_named}
+use Rattle.dh_record.specs.Rows.{key_named}
 use Rattle.dh_table.proofs.loops.least_back.Given as goal
 
 abbrev pub invariant-loop-n : goal.invariant-loop-n

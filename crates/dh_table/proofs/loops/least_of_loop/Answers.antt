@@ -4,11 +4,11 @@ use Rattle.std.proofs.lemmas.List.{length-replicate, length-set}
 use Rattle.std.proofs.lemmas.List.Elements.{All-nil, All-same}
 use Rattle.dh_imports.specs.Resolver.{is_in}
 use Rattle.dh_import_laws.proofs.Graph.{Trail, here, begins, follows, one_more}
-use Rattle.dh_table.specs.Inside.Searching.{is_set, unseen}
-use Rattle.dh_table.specs.States.{key_named}
-use Rattle.dh_table.proofs.Logs.{latest}
+use Rattle.dh_record.specs.Marks.{is_set, unseen}
+use Rattle.dh_record.specs.Rows.{key_named}
+use Rattle.dh_record.proofs.Latest.{latest}
 use Rattle.dh_table.proofs.Looping.{To, unseen_all, marked_trail, loop_found}
-use Rattle.dh_table.proofs.Seeing.{nothing_set, fewer_unseen}
+use Rattle.dh_record.proofs.Marking.{nothing_set, fewer_unseen}
 use Rattle.dh_table.proofs.Stepping.{all-push}
 use Rattle.dh_table.proofs.loops.least_of_loop.Goals as goal
 

@@ -2,8 +2,9 @@ use Rattle.std.specs.Prelude.{◌≡◌, ◌+◌, ◌<◌, ◌≤◌, ℕ, true,
 use Rattle.dh_imports.specs.Machine.{State}
 use Rattle.dh_imports.specs.Resolver.{is_in}
 use Rattle.dh_import_laws.proofs.Graph.{Trail, Way}
-use Rattle.dh_table.specs.Inside.Searching.{IsStuck, is_set, unseen}
-use Rattle.dh_table.specs.States.{key_named}
+use Rattle.dh_table.specs.Inside.Searching.{IsStuck}
+use Rattle.dh_record.specs.Marks.{is_set, unseen}
+use Rattle.dh_record.specs.Rows.{key_named}
 use Rattle.dh_table.proofs.Looping.{To}
 use Rattle.dh_table.proofs.loops.least_of_loop.Given as goal
 

@@ -1,6 +1,6 @@
 use Rattle.std.proofs.Common.{sym, ◌∙◌}
 use Rattle.dh_syntax.proofs.NativeTests.{bytes_eq-pointwise}
-use Rattle.dh_table.specs.States.{digest_or_none}
+use Rattle.dh_record.specs.Rows.{digest_or_none}
 use Rattle.dh_table.proofs.sameness.is_same_digest.Goals as goal
 
 pub returns : goal.returns

@@ -1,6 +1,6 @@
-use Rattle.dh_table.specs.declared.steps.Kind.TheVariants as kinds
-use Rattle.dh_table.specs.States.{digest_or_none}
-use Rattle.dh_table.proofs.Reading.{key_at_names}
+use Rattle.dh_record.specs.declared.kinds.Kind.TheVariants as kinds
+use Rattle.dh_record.specs.Rows.{digest_or_none}
+use Rattle.dh_record.proofs.Reading.{key_at_names}
 use Rattle.dh_table.proofs.Tasks.{same_fetch, same_look, same_finish, same_by}
 use Rattle.dh_table.proofs.sameness.is_same_task.Goals as goal
 

@@ -5,7 +5,7 @@ use Rattle.std.proofs.lemmas.List.Elements.{All-get_or, Contains-get_or}
 use Rattle.dh_table.specs.States.{task_of}
 use Rattle.dh_table.specs.declared.steps.Flight.{Flight}
 use Rattle.dh_table.specs.declared.steps.Job.{Job}
-use Rattle.dh_table.specs.declared.steps.Kind.TheVariants as kinds
+use Rattle.dh_record.specs.declared.kinds.Kind.TheVariants as kinds
 use Rattle.dh_table.proofs.Logs.{flight_found, flight_passed}
 use Rattle.dh_table.proofs.sameness.job_of.Goals as goal
 use Rattle.dh_table.proofs.sameness.job_of.Goals.{then-flight-serial, else-flight-serial}

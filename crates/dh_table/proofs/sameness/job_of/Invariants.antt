@@ -5,7 +5,7 @@ use Rattle.dh_syntax.specs.Expressions.Numbers.{eq}
 use Rattle.dh_imports.specs.Records.{lookup}
 use Rattle.dh_table.specs.declared.steps.Flight.{Flight}
 use Rattle.dh_table.specs.declared.steps.Job.{Job}
-use Rattle.dh_table.specs.declared.texts.Entrant.{Entrant}
+use Rattle.dh_record.specs.declared.rows.recorded.Entrant.{Entrant}
 use Rattle.dh_table.specs.States.{flight_of, task_of}
 use Rattle.dh_table.proofs.sameness.job_of.Given as goal
 

@@ -2,7 +2,7 @@ use Rattle.std.proofs.Common.{◌≡◌, ◌≤◌, ◌++◌, List, map, length}
 use Rattle.std.specs.Prelude.{All}
 use Rattle.dh_ports.specs.declared.mem_desks.CacheEntry.{CacheEntry}
 use Rattle.dh_syntax.specs.Limits.{most_entry_bytes}
-use Rattle.dh_table.specs.Kept.{pair_of}
+use Rattle.dh_record.specs.Kept.{pair_of}
 use Rattle.dh_top.specs.Outside.{FilesAll}
 use Rattle.dh_top.proofs.keeping.keep_all.Given as goal
 

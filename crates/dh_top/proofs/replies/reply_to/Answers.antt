@@ -8,7 +8,7 @@ pub returns-in-Ok-clause-made : goal.returns-in-Ok-clause-made
 returns-in-Ok-clause-made g c = made_by_words _ c.in-Ok.command _ _ _ c.perform.result c.in-Ok.ensures c.operands_of-operands.ensures c.perform.ensures.performs
 
 pub returns-in-Ok-clause-lacks : goal.returns-in-Ok-clause-lacks
-returns-in-Ok-clause-lacks g c = lacks_by_words _ c.in-Ok.command _ _ c.perform.result c.in-Ok.ensures c.perform.ensures.lacks
+returns-in-Ok-clause-lacks g c = lacks_by_words _ c.in-Ok.command _ _ _ c.perform.result c.in-Ok.ensures c.operands_of-operands.ensures c.perform.ensures.lacks
 
 pub returns-in-Err-clause-made : goal.returns-in-Err-clause-made
 returns-in-Err-clause-made g c = made_misused _ c.in-Err.k _ _ c.misuse.result c.in-Err.ensures (keeps_itself _) refl (refl, refl, refl) c.misuse.ensures

@@ -1,5 +1,5 @@
 use Rattle.std.proofs.Common.{map}
-use Rattle.dh_table.specs.Kept.{pair_of}
+use Rattle.dh_record.specs.Kept.{pair_of}
 use Rattle.dh_top.proofs.Filing.{small_keeps, kept_seen, part_seen, kept_part, on_ok_of, on_err_of}
 use Rattle.dh_top.proofs.resolving.answered_reply.Goals as goal
 

@@ -3,13 +3,13 @@ use Rattle.std.specs.Prelude.{max, min}
 use Rattle.dh_syntax.specs.Expressions.Bridge.{term}
 use Rattle.dh_syntax.specs.Expressions.Spellable.{IsSpellable}
 use Rattle.dh_syntax.specs.Text.Spelling.{ParsesTo}
-use Rattle.dh_table.specs.Kept.{pair_of}
-use Rattle.dh_top.specs.Outside.{first_of, files_none}
+use Rattle.dh_record.specs.Kept.{pair_of}
+use Rattle.dh_top.specs.Outside.{first_of}
 use Rattle.dh_top.proofs.Closing.{closed}
-use Rattle.dh_top.proofs.Encodings.{part_none}
+use Rattle.dh_top.proofs.Encodings.{part_none_any}
 use Rattle.dh_top.proofs.Filing.{ok_seen, err_seen, same_seen}
 use Rattle.dh_top.proofs.Resolutions.{answered, answered_none, too_many_answered}
-use Rattle.dh_top.proofs.Using.{uses_keeping, uses_workers}
+use Rattle.dh_top.proofs.Using.{resolving_uses, uses_keeping, uses_workers}
 use Rattle.dh_top.proofs.resolving.spelled_reply.Goals as goal
 
 pub answered_reply-requires-clause-spelled : goal.answered_reply-requires-clause-spelled
@@ -71,19 +71,19 @@ returns-in-Err-TooMany-clause-answers g c =
     (c.in-Err-TooMany.ensures.too_many c.in-Err-TooMany.field-0-is) c.why_reply.ensures
 
 pub returns-in-Err-TooMany-clause-lacks : goal.returns-in-Err-TooMany-clause-lacks
-returns-in-Err-TooMany-clause-lacks g c = part_none c.args.command.verb c.args.text.now _ c.why_reply.result (ap (first_of None) c.resolve_all.ensures.filed)
-
-pub returns-in-Err-Memory-clause-lacks : goal.returns-in-Err-Memory-clause-lacks
-returns-in-Err-Memory-clause-lacks g c = files_none (ap (first_of None) c.resolve_all.ensures.filed)
+returns-in-Err-TooMany-clause-lacks g c = part_none_any c.args.command.verb c.args.text.now _ c.why_reply.result (ap (first_of None) c.resolve_all.ensures.filed)
 
 pub returns-in-Ok-clause-desks : goal.returns-in-Ok-clause-desks
 returns-in-Ok-clause-desks g c =
-    uses_keeping (λ d. g.D.Desk.filed d) c.args.command _ _ _ _ c.requires.resolves (c.workers_for-workers.ensures ∙ ap (λ n. max 1 (min c.args.command.workers n)) c.len.ensures) c.resolve_all.ensures.idle c.resolve_all.ensures.filed _ _ _ c.answered_reply.result
+    uses_keeping (λ d. g.D.Desk.filed d) c.args.command _ _ _ _ (resolving_uses c.args.command.verb c.requires.resolves) (c.workers_for-workers.ensures ∙ ap (λ n. max 1 (min c.args.command.workers n)) c.len.ensures) c.resolve_all.ensures.idle c.resolve_all.ensures.filed _ _ _ c.answered_reply.result
     (ok_seen _ c.as_mut_slice.result.now _ c.answered_reply.new.desks _ _ c.answered_reply.result c.as_mut_slice.ensures.value (omega (arith, c.as_mut_slice.ensures.len, ap length c.as_mut_slice.ensures.value)) c.answered_reply.ensures.kept)
     (err_seen _ c.as_mut_slice.result.now _ c.answered_reply.new.desks _ _ c.answered_reply.result c.as_mut_slice.ensures.value (omega (arith, c.as_mut_slice.ensures.len, ap length c.as_mut_slice.ensures.value)) c.answered_reply.ensures.part)
 
 pub returns-in-Err-TooMany-clause-desks : goal.returns-in-Err-TooMany-clause-desks
-returns-in-Err-TooMany-clause-desks g c = uses_workers (λ d. g.D.Desk.filed d) c.args.command _ _ _ _ c.requires.resolves (c.workers_for-workers.ensures ∙ ap (λ n. max 1 (min c.args.command.workers n)) c.len.ensures) c.resolve_all.ensures.idle c.resolve_all.ensures.filed
+returns-in-Err-TooMany-clause-desks g c = uses_workers (λ d. g.D.Desk.filed d) c.args.command _ _ _ _ (resolving_uses c.args.command.verb c.requires.resolves) (c.workers_for-workers.ensures ∙ ap (λ n. max 1 (min c.args.command.workers n)) c.len.ensures) c.resolve_all.ensures.idle c.resolve_all.ensures.filed
 
-pub returns-in-Err-Memory-clause-desks : goal.returns-in-Err-Memory-clause-desks
-returns-in-Err-Memory-clause-desks g c = uses_workers (λ d. g.D.Desk.filed d) c.args.command _ _ _ _ c.requires.resolves (c.workers_for-workers.ensures ∙ ap (λ n. max 1 (min c.args.command.workers n)) c.len.ensures) c.resolve_all.ensures.idle c.resolve_all.ensures.filed
+pub returns-in_err-shelf-clause-lacks : goal.returns-in_err-shelf-clause-lacks
+returns-in_err-shelf-clause-lacks g c = part_none_any c.args.command.verb c.args.text.now _ c.from_residual.result refl
+
+pub returns-in_err-shelf-clause-desks : goal.returns-in_err-shelf-clause-desks
+returns-in_err-shelf-clause-desks g c = uses_workers (λ d. g.D.Desk.filed d) c.args.command _ _ _ _ (resolving_uses c.args.command.verb c.requires.resolves) (c.workers_for-workers.ensures ∙ ap (λ n. max 1 (min c.args.command.workers n)) c.len.ensures) refl refl

@@ -3,7 +3,7 @@ use Rattle.std.proofs.lemmas.Result.{IfOk-weaker}
 use Rattle.dh_imports.specs.declared.outcomes.Outcome.TheVariants as outcomes
 use Rattle.dh_syntax.specs.Expressions.Bridge.{term}
 use Rattle.dh_imports.specs.LastStep.{text_outcome}
-use Rattle.dh_table.specs.Values.{IsFit}
+use Rattle.dh_record.specs.Values.{IsFit}
 use Rattle.dh_work.specs.Inside.Coming.{IsCame}
 use Rattle.dh_work.proofs.Comings.{code_item, text_item, location_item, compare_item, entry_item, fault_item}
 use Rattle.dh_work.proofs.last_steps.came.Goals as goal

@@ -3,7 +3,7 @@ use Rattle.std.proofs.lemmas.Result.{IfOk-weaker}
 use Rattle.dh_syntax.specs.Expressions.Bridge.{term}
 use Rattle.dh_imports.specs.LastStep.{compared}
 use Rattle.dh_imports.specs.Outcomes.{plain}
-use Rattle.dh_table.specs.Values.{HasValue}
+use Rattle.dh_record.specs.Values.{HasValue}
 use Rattle.dh_work.proofs.Comings.{compared_same, compared_differs, digest_room, of_own}
 use Rattle.dh_work.proofs.last_steps.checked.Goals as goal
 

@@ -4,7 +4,7 @@ use Rattle.std.proofs.lemmas.Result.{IfOk-weaker}
 use Rattle.std.proofs.lemmas.Str.{utf8_valid_len_le}
 use Rattle.dh_imports.specs.LastStep.{text_outcome}
 use Rattle.dh_imports.specs.Outcomes.{plain}
-use Rattle.dh_table.specs.Values.{HasValue}
+use Rattle.dh_record.specs.Values.{HasValue}
 use Rattle.dh_work.proofs.Comings.{of_own, text_large, text_good, text_bad}
 use Rattle.dh_work.proofs.texts.text_outcome.Goals as goal
 

@@ -8,7 +8,8 @@ use Rattle.dh_table.specs.declared.steps.Step.TheVariants as steps
 use Rattle.dh_table.specs.Calls.{Adds}
 use Rattle.dh_table.specs.Inside.Searching.{IsJob}
 use Rattle.dh_table.specs.Shown.{Shown}
-use Rattle.dh_table.specs.States.{key_named, state_of, task_of}
+use Rattle.dh_record.specs.Rows.{key_named}
+use Rattle.dh_table.specs.States.{state_of, task_of}
 use Rattle.dh_table.proofs.Claiming.{none_of, adds_joined, hands_out, claim_adds}
 use Rattle.dh_table.proofs.tables.Table.claim_past_loop.Goals as goal
 

@@ -5,7 +5,8 @@ use Rattle.dh_imports.specs.Machine as machine
 use Rattle.dh_imports.specs.Machine.{IsOpen}
 use Rattle.dh_table.specs.declared.steps.Flight.{Flight}
 use Rattle.dh_table.specs.declared.steps.Job.{Job}
-use Rattle.dh_table.specs.States.{IsFrozenLook, state_of, task_of, news_of}
+use Rattle.dh_table.specs.States.{IsFrozenLook, state_of, task_of}
+use Rattle.dh_record.specs.Brought.{news_of}
 use Rattle.dh_table.specs.Tables.{IsStepNamed, view_of}
 use Rattle.dh_table.proofs.Fitting.{fit_drawn}
 use Rattle.dh_table.proofs.Histories.{further}

@@ -5,7 +5,8 @@ use Rattle.dh_imports.specs.Walk.{Needs}
 use Rattle.dh_import_laws.proofs.Progress.{root_wanted}
 use Rattle.dh_table.specs.Inside.Searching.{IsLoop, IsStuck, Stands}
 use Rattle.dh_table.specs.Shown.{Shown}
-use Rattle.dh_table.specs.States.{key_named, state_of}
+use Rattle.dh_record.specs.Rows.{key_named}
+use Rattle.dh_table.specs.States.{state_of}
 use Rattle.dh_table.proofs.tables.Table.find_loop.Goals as goal
 
 pub least_of_loop-requires-clause-stuck : goal.least_of_loop-requires-clause-stuck

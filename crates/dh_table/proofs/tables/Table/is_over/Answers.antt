@@ -1,11 +1,11 @@
 use Rattle.std.proofs.Common.{ap, sym, ◌∙◌, refl, subst as along}
 use Rattle.std.proofs.lemmas.Bool.{false≢true}
-use Rattle.std.specs.Prelude.{◌≡◌, false, None, is_some}
+use Rattle.std.specs.Prelude.{◌≡◌, false, None, is_some, IsSome}
 use Rattle.dh_imports.specs.Machine.{root_walk}
 use Rattle.dh_imports.specs.Replay.{has_too_many, root_end}
-use Rattle.std.specs.Prelude.{IsSome}
 use Rattle.dh_table.specs.Shown.{Shown}
-use Rattle.dh_table.specs.States.{rows_of, state_of}
+use Rattle.dh_record.specs.Rows.{rows_of}
+use Rattle.dh_table.specs.States.{state_of}
 use Rattle.dh_table.specs.Tables.{view_of}
 use Rattle.dh_table.proofs.Beginnings.{above, not_above}
 use Rattle.dh_table.proofs.RootEnds.{known_count, ends_too_many, needed, no_end}

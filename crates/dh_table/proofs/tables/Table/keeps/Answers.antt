@@ -5,11 +5,13 @@ use Rattle.dh_imports.specs.Keeps.{AreKeeps}
 use Rattle.dh_imports.specs.Machine.{State, root_walk}
 use Rattle.dh_imports.specs.Replay.{has_too_many, root_end}
 use Rattle.dh_imports.specs.Resolver.{resolve}
-use Rattle.dh_table.specs.Kept.{IsKeeping, pair_of}
+use Rattle.dh_table.specs.Kept.{IsKeeping}
+use Rattle.dh_record.specs.Kept.{pair_of}
 use Rattle.dh_table.specs.Shown.{Shown}
-use Rattle.dh_table.specs.States.{rows_of, state_of}
+use Rattle.dh_record.specs.Rows.{rows_of}
+use Rattle.dh_table.specs.States.{state_of}
 use Rattle.dh_table.proofs.Beginnings.{above, not_above}
-use Rattle.dh_table.proofs.DueItems.{ready_value}
+use Rattle.dh_record.proofs.DueItems.{ready_value}
 use Rattle.dh_table.proofs.RootEnds.{known_count}
 use Rattle.dh_table.proofs.RootEnding.{many_keep, ready_keep}
 use Rattle.dh_table.proofs.tables.Table.keeps.Goals as goal

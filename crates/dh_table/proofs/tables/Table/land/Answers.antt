@@ -5,12 +5,14 @@ use Rattle.dh_imports.specs.Machine as machine
 use Rattle.dh_imports.specs.Machine.{Task, InFlight}
 use Rattle.dh_table.specs.declared.steps.Flight.{Flight}
 use Rattle.dh_table.specs.declared.steps.Step.TheVariants as steps
-use Rattle.dh_table.specs.States.{state_of, news_of, step_by}
+use Rattle.dh_table.specs.States.{state_of, step_by}
+use Rattle.dh_record.specs.Brought.{news_of}
 use Rattle.dh_table.specs.Tables.{IsStepNamed, view_of}
 use Rattle.dh_table.proofs.Fitting.{fit_filtered}
 use Rattle.dh_table.proofs.Histories.{further}
 use Rattle.dh_table.proofs.Known.{known_flights}
-use Rattle.dh_table.proofs.Logs.{mapped, others, fewer_flights, room_lands}
+use Rattle.dh_record.proofs.Latest.{mapped}
+use Rattle.dh_table.proofs.Logs.{others, fewer_flights, room_lands}
 use Rattle.dh_table.proofs.Stepping.{flights-with, filtered-flights, all-filter, all-push}
 use Rattle.dh_table.proofs.tables.Table.land.Goals as goal
 

@@ -6,18 +6,21 @@ use Rattle.dh_imports.specs.Machine as machine
 use Rattle.dh_imports.specs.Machine.{InFlight, IsInTime, May}
 use Rattle.dh_table.specs.declared.steps.Flight.{Flight}
 use Rattle.dh_table.specs.declared.steps.Step.TheVariants as steps
-use Rattle.dh_table.specs.declared.texts.Look.{Look}
-use Rattle.dh_table.specs.Brought.{IsShelved}
-use Rattle.dh_table.specs.Inside.Sorting.{IsRanked, rank_of_look}
+use Rattle.dh_record.specs.declared.rows.recorded.Look.{Look}
+use Rattle.dh_record.specs.Brought.{IsShelved, news_of}
+use Rattle.dh_record.specs.Sorting.{IsRanked, rank_of_look}
 use Rattle.dh_table.specs.Shown.{Shown}
-use Rattle.dh_table.specs.States.{look_of, seen_by, state_of, news_of, step_by}
+use Rattle.dh_record.specs.Rows.{look_of, seen_by}
+use Rattle.dh_table.specs.States.{state_of, step_by}
 use Rattle.dh_table.specs.Tables.{IsStepNamed, view_of}
 use Rattle.dh_table.proofs.Fitting.{fit_filtered}
 use Rattle.dh_table.proofs.Histories.{further}
 use Rattle.dh_table.proofs.Known.{known_still, step_grows}
 use Rattle.dh_table.proofs.Landing.{looked_state}
-use Rattle.dh_table.proofs.Logs.{latest, mapped, others, fewer_flights, room_lands}
-use Rattle.dh_table.proofs.Recorded.{look_unrecorded, order_grown}
+use Rattle.dh_record.proofs.Latest.{latest, mapped}
+use Rattle.dh_table.proofs.Logs.{others, fewer_flights, room_lands}
+use Rattle.dh_table.proofs.Unrecorded.{look_unrecorded}
+use Rattle.dh_record.proofs.Recorded.{order_grown}
 use Rattle.dh_table.proofs.Stepping.{filtered-flights, all-filter, all-push}
 use Rattle.dh_table.proofs.tables.Table.land_look.Goals as goal
 

@@ -8,17 +8,20 @@ use Rattle.dh_imports.specs.Machine.{InFlight, IsDone, IsInTime, May, outcome_of
 use Rattle.dh_imports.specs.Outcomes.{plain}
 use Rattle.dh_imports.specs.Records.{limit_at}
 use Rattle.dh_demand.specs.Results.{ask_of}
-use Rattle.dh_table.specs.declared.news.News.TheVariants as news
+use Rattle.dh_record.specs.declared.news.News.TheVariants as news
 use Rattle.dh_table.specs.declared.steps.Flight.{Flight}
 use Rattle.dh_table.specs.declared.steps.Job.{Job}
 use Rattle.dh_table.specs.declared.steps.Step.TheVariants as steps
-use Rattle.dh_table.specs.Inside.Entering.{decided_at}
+use Rattle.dh_record.specs.Entering.{decided_at}
 use Rattle.dh_table.specs.Inside.Searching.{HasRoom, IsExploredBy, is_open_value}
-use Rattle.dh_table.specs.Items.{stage_of_item}
+use Rattle.dh_record.specs.Items.{stage_of_item}
 use Rattle.dh_table.specs.Shown.{Shown}
-use Rattle.dh_table.specs.States.{IsReplayed, limit_by, rows_of, key_named, state_of, news_of, step_by}
+use Rattle.dh_table.specs.States.{IsReplayed, state_of, step_by}
+use Rattle.dh_record.specs.Brought.{limit_by, news_of}
+use Rattle.dh_record.specs.Rows.{rows_of, key_named}
 use Rattle.dh_table.specs.Tables.{AreFit, IsKnown, IsOwned, IsStepNamed, IsRoomy, view_of}
-use Rattle.dh_table.proofs.Deciding.{finished_state, finished_history, decided_known, decided_owned, decided_length, asks_after, no_limit}
+use Rattle.dh_table.proofs.Deciding.{finished_state, finished_history, decided_known, decided_owned, asks_after, no_limit}
+use Rattle.dh_record.proofs.Decided.{decided_length}
 use Rattle.dh_table.proofs.Finishing.{undecided_flight, is_done, all_push_if, room_falls, room_left}
 use Rattle.dh_table.proofs.Fitting.{fit_decided, fit_filtered}
 use Rattle.dh_table.proofs.Histories.{further}

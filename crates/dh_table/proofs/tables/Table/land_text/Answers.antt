@@ -6,20 +6,20 @@ use Rattle.dh_syntax.specs.Imports.Keys.{loc_rank}
 use Rattle.dh_imports.specs.Machine as machine
 use Rattle.dh_imports.specs.Machine.{InFlight}
 use Rattle.dh_demand.specs.Results.{ask_of}
-use Rattle.dh_table.specs.declared.news.News.{News}
-use Rattle.dh_table.specs.declared.news.News.TheVariants as news
+use Rattle.dh_record.specs.declared.news.News.{News}
+use Rattle.dh_record.specs.declared.news.News.TheVariants as news
 use Rattle.dh_table.specs.declared.steps.Flight.{Flight}
 use Rattle.dh_table.specs.declared.steps.Job.{Job}
 use Rattle.dh_table.specs.declared.steps.Step.TheVariants as steps
 use Rattle.dh_table.specs.declared.tables.Table.TheInside.{Inside}
-use Rattle.dh_table.specs.declared.texts.Text.{Text}
-use Rattle.dh_table.specs.Brought.{AreTold, IsTold}
-use Rattle.dh_table.specs.Inside.Entering.{AreMore, AreEdges, entered_all, keys_in}
-use Rattle.dh_table.specs.Inside.Recording.{imports_of, read_of}
+use Rattle.dh_record.specs.declared.rows.recorded.Text.{Text}
+use Rattle.dh_record.specs.Brought.{AreTold, IsTold, imports_of, read_of, news_of}
+use Rattle.dh_record.specs.Entering.{AreMore, AreEdges, entered_all, keys_in}
 use Rattle.dh_table.specs.Inside.Searching.{Knows}
-use Rattle.dh_table.specs.Inside.Sorting.{IsOrder, IsRanked, rank_of_text}
+use Rattle.dh_record.specs.Sorting.{IsOrder, IsRanked, rank_of_text}
 use Rattle.dh_table.specs.Shown.{Shown}
-use Rattle.dh_table.specs.States.{IsReplayed, noted_by, parsed_by, rows_of, state_of, news_of}
+use Rattle.dh_table.specs.States.{IsReplayed, state_of}
+use Rattle.dh_record.specs.Rows.{noted_by, parsed_by, rows_of}
 use Rattle.dh_table.specs.Tables.{AreFit, IsGood, IsKnown, IsOwned, IsStepNamed, view_of}
 use Rattle.dh_table.specs.Calls.{Records}
 use Rattle.dh_table.proofs.Landing.{landed_decided}
@@ -27,7 +27,8 @@ use Rattle.dh_table.proofs.Fitting.{fit_filtered, fit_more}
 use Rattle.dh_table.proofs.Histories.{further}
 use Rattle.dh_table.proofs.Known.{step_grows}
 use Rattle.dh_table.proofs.Logs.{others, fewer_flights, room_lands}
-use Rattle.dh_table.proofs.Recorded.{order_grown, text_unrecorded}
+use Rattle.dh_record.proofs.Recorded.{order_grown}
+use Rattle.dh_table.proofs.Unrecorded.{text_unrecorded}
 use Rattle.dh_table.proofs.Staying.{known_alike, known_more as known_grown}
 use Rattle.dh_table.proofs.Stepping.{filtered-flights, all-filter, all-push}
 use Rattle.dh_table.proofs.TextLanding.{noted_same, is_parsed, is_read, keys_are_noted, steps_named, flights_named, jobs_named, numbers_named, owned_more, asks_more, known_more, fetched_state, fetched_history}

@@ -14,11 +14,14 @@ use Rattle.dh_demand.specs.Results.{ask_of}
 use Rattle.dh_table.specs.declared.steps.Flight.{Flight}
 use Rattle.dh_table.specs.declared.steps.Job.{Job}
 use Rattle.dh_table.specs.declared.steps.Step.TheVariants as steps
-use Rattle.dh_table.specs.Inside.Entering.{decided_at}
+use Rattle.dh_record.specs.Entering.{decided_at}
 use Rattle.dh_table.specs.Shown.{Shown}
-use Rattle.dh_table.specs.States.{nobody, rows_of, key_named, state_of, news_of, step_by}
+use Rattle.dh_record.specs.Rows.{nobody, rows_of, key_named}
+use Rattle.dh_table.specs.States.{state_of, step_by}
+use Rattle.dh_record.specs.Brought.{news_of}
 use Rattle.dh_table.specs.Tables.{AreFit, IsKnown, IsOwned, IsStepNamed, IsRoomy, view_of}
-use Rattle.dh_table.proofs.Deciding.{undecided_at, decided_state, decided_history, decided_known, decided_owned, decided_length, asks_after, no_limit}
+use Rattle.dh_record.proofs.Decided.{undecided_at, decided_length}
+use Rattle.dh_table.proofs.Deciding.{decided_state, decided_history, decided_known, decided_owned, asks_after, no_limit}
 use Rattle.dh_table.proofs.Fitting.{fit_decided}
 use Rattle.dh_table.proofs.Histories.{further}
 use Rattle.dh_table.proofs.Stepping.{all-push}

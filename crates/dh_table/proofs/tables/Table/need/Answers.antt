@@ -5,10 +5,11 @@ use Rattle.dh_imports.specs.Machine.{root_walk}
 use Rattle.dh_imports.specs.Replay.{has_too_many, root_end}
 use Rattle.dh_imports.specs.Walk.{Needs}
 use Rattle.dh_table.specs.Shown.{Shown}
-use Rattle.dh_table.specs.States.{rows_of, state_of}
+use Rattle.dh_record.specs.Rows.{rows_of}
+use Rattle.dh_table.specs.States.{state_of}
 use Rattle.dh_table.specs.Tables.{view_of}
 use Rattle.dh_table.proofs.Beginnings.{above, not_above}
-use Rattle.dh_table.proofs.Reading.{number_names}
+use Rattle.dh_record.proofs.Reading.{number_names}
 use Rattle.dh_table.proofs.RootEnds.{known_count, ends_too_many, needed, no_end}
 use Rattle.dh_table.proofs.tables.Table.need.Goals as goal
 

@@ -11,12 +11,12 @@ use Rattle.dh_demand.specs.declared.scans.Edge.{Edge}
 use Rattle.dh_demand.specs.declared.scans.Scan.{Scan}
 use Rattle.dh_table.specs.declared.steps.Flight.{Flight}
 use Rattle.dh_table.specs.declared.steps.Job.{Job}
-use Rattle.dh_table.specs.declared.texts.Look.{Look}
-use Rattle.dh_table.specs.declared.texts.Text.{Text}
-use Rattle.dh_table.specs.Brought.{IsShelved, IsTold}
-use Rattle.dh_table.specs.Inside.Entering.{AreEdges, AreFew, entered_all, keys_in}
-use Rattle.dh_table.specs.Inside.Sorting.{IsOrder, rank_of_look, rank_of_text}
-use Rattle.dh_table.specs.States.{rows_of}
+use Rattle.dh_record.specs.declared.rows.recorded.Look.{Look}
+use Rattle.dh_record.specs.declared.rows.recorded.Text.{Text}
+use Rattle.dh_record.specs.Brought.{IsShelved, IsTold}
+use Rattle.dh_record.specs.Entering.{AreEdges, AreFew, entered_all, keys_in}
+use Rattle.dh_record.specs.Sorting.{IsOrder, rank_of_look, rank_of_text}
+use Rattle.dh_record.specs.Rows.{rows_of}
 use Rattle.dh_table.specs.Tables.{AreFit, IsKnown, IsStepNamed, view_of}
 use Rattle.dh_table.proofs.Fitting.{fit_opened}
 use Rattle.dh_table.proofs.Beginnings.{entered_as, all_new, all_owned, opened_known, opened_asks, opened_count, IsEmpty, empty_state, empty_replayed, above, not_above, entered_count, few_enough}

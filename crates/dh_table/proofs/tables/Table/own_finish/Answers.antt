@@ -4,18 +4,19 @@ use Rattle.dh_imports.specs.Machine as machine
 use Rattle.dh_imports.specs.Machine.{stage_of}
 use Rattle.dh_imports.specs.Resolver.{stage}
 use Rattle.dh_demand.specs.Results.{ask_of}
-use Rattle.dh_table.specs.Inside.Equal.{are_due_on_one}
-use Rattle.dh_table.specs.Inside.Reading.{record_by}
+use Rattle.dh_record.specs.Inside.Equal.{are_due_on_one}
+use Rattle.dh_record.specs.Reading.{record_by}
 use Rattle.dh_table.specs.Inside.Recording.{IsFinish, IsOwnFinish}
 use Rattle.dh_table.specs.Inside.Searching.{Stands}
-use Rattle.dh_table.specs.Items.{stage_of_item}
+use Rattle.dh_record.specs.Items.{stage_of_item}
 use Rattle.dh_table.specs.Shown.{Shown}
-use Rattle.dh_table.specs.States.{key_named, rows_of, state_of}
+use Rattle.dh_record.specs.Rows.{key_named, rows_of}
+use Rattle.dh_table.specs.States.{state_of}
 use Rattle.dh_table.specs.Tables.{view_of}
 use Rattle.dh_table.proofs.Finishing.{finish_names}
 use Rattle.dh_table.proofs.Landing.{one_serial}
 use Rattle.dh_table.proofs.Seeing.{stage_stands}
-use Rattle.dh_table.proofs.Telling.{due_tells}
+use Rattle.dh_record.proofs.Telling.{due_tells}
 use Rattle.dh_table.proofs.tables.Table.own_finish.Goals as goal
 
 pub returns-then-own : goal.returns-then-own

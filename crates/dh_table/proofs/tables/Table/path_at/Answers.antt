@@ -9,11 +9,12 @@ use Rattle.dh_demand.specs.Results.{ask_of}
 use Rattle.dh_demand.specs.Scans.{text_key}
 use Rattle.dh_laws.proofs.KeyOrder.{some-equal}
 use Rattle.dh_ports.specs.declared.worlds.Got.TheVariants as gots
-use Rattle.dh_table.specs.declared.news.Noted.TheVariants as noteds
-use Rattle.dh_table.specs.Finds.{path_found}
-use Rattle.dh_table.specs.Inside.Reading.{noted_of}
-use Rattle.dh_table.specs.States.{noted_by, record_of, rows_of, scanned, state_of, text_of}
-use Rattle.dh_table.proofs.ReadBack.{ok_with, found_is}
+use Rattle.dh_record.specs.declared.news.Noted.TheVariants as noteds
+use Rattle.dh_record.specs.Finds.{path_found}
+use Rattle.dh_record.specs.Reading.{noted_of}
+use Rattle.dh_record.specs.Rows.{noted_by, rows_of, scanned, text_of}
+use Rattle.dh_table.specs.States.{record_of, state_of}
+use Rattle.dh_record.proofs.ReadBack.{ok_with, found_is}
 use Rattle.dh_table.proofs.tables.Table.path_at.Goals as goal
 
 pub returns-in-Got-Found-Some-Ok-clause-exact : goal.returns-in-Got-Found-Some-Ok-clause-exact

@@ -6,9 +6,9 @@ use Rattle.dh_imports.specs.Keeps.{AreKeeps}
 use Rattle.dh_imports.specs.Machine.{outcome_of, root_walk}
 use Rattle.dh_imports.specs.Resolver.{resolve}
 use Rattle.dh_imports.specs.Walk.{Ready, walk}
-use Rattle.dh_table.specs.Inside.Keeping.{AreVisited, AreLeast, AreEntries}
-use Rattle.dh_table.specs.Inside.Reading.{record_by}
-use Rattle.dh_table.specs.Kept.{pair_of}
+use Rattle.dh_record.specs.Keeping.{AreVisited, AreLeast, AreEntries}
+use Rattle.dh_record.specs.Reading.{record_by}
+use Rattle.dh_record.specs.Kept.{pair_of}
 use Rattle.dh_table.specs.Shown.{Shown}
 use Rattle.dh_table.specs.States.{record_of, state_of}
 use Rattle.dh_table.specs.Tables.{view_of}

@@ -2,11 +2,12 @@ use Rattle.std.proofs.Common.{sym, refl, arith, length, subst as along}
 use Rattle.std.proofs.lemmas.Grind.{common_steps}
 use Rattle.dh_imports.specs.Machine as machine
 use Rattle.dh_imports.specs.Machine.{IsInTime}
-use Rattle.dh_table.specs.States.{state_of, news_of, step_by}
+use Rattle.dh_table.specs.States.{state_of, step_by}
+use Rattle.dh_record.specs.Brought.{news_of}
 use Rattle.dh_table.specs.Tables.{IsStepNamed, view_of}
 use Rattle.dh_table.specs.declared.steps.Step.TheVariants as steps
 use Rattle.dh_table.proofs.Histories.{further}
-use Rattle.dh_table.proofs.Logs.{mapped}
+use Rattle.dh_record.proofs.Latest.{mapped}
 use Rattle.dh_table.proofs.Stepping.{all-push}
 use Rattle.dh_table.proofs.tables.Table.refuse.Goals as goal
 

@@ -8,7 +8,8 @@ use Rattle.dh_table.specs.declared.steps.Job.{Job}
 use Rattle.dh_table.specs.declared.steps.Step.{Step}
 use Rattle.dh_table.specs.Inside.Searching.{Knows}
 use Rattle.dh_table.specs.Shown.{Shown}
-use Rattle.dh_table.specs.States.{IsReplayed, rows_of, state_of}
+use Rattle.dh_table.specs.States.{IsReplayed, state_of}
+use Rattle.dh_record.specs.Rows.{rows_of}
 use Rattle.dh_table.specs.Tables.{AreFit, IsStepNamed, view_of}
 use Rattle.dh_table.proofs.tables.Table.reserve.Goals as goal
 

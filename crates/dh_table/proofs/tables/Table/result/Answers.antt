@@ -5,8 +5,9 @@ use Rattle.dh_imports.specs.Machine.{outcome_of}
 use Rattle.dh_demand.specs.Results.{number_of}
 use Rattle.dh_demand.proofs.Numbers.{within}
 use Rattle.dh_table.specs.Shown.{Shown}
-use Rattle.dh_table.specs.States.{rows_of, state_of}
-use Rattle.dh_table.proofs.RootEnds.{asked_number, asked_none}
+use Rattle.dh_record.specs.Rows.{rows_of}
+use Rattle.dh_table.specs.States.{state_of}
+use Rattle.dh_record.proofs.Reading.{asked_number, asked_none}
 use Rattle.dh_table.proofs.tables.Table.result.Goals as goal
 
 pub outcome-requires : goal.outcome-requires

@@ -10,13 +10,14 @@ use Rattle.dh_demand.specs.Nexts.{IsNext}
 use Rattle.dh_demand.specs.Results.{ask_of}
 use Rattle.dh_demand.specs.Scans.{Fits}
 use Rattle.dh_demand.specs.Values.{IsReady}
-use Rattle.dh_table.specs.Roots.{FitsRoot}
+use Rattle.dh_record.specs.Values.{FitsRoot}
 use Rattle.dh_table.specs.Shown.{Shown}
-use Rattle.dh_table.specs.States.{rows_of, state_of}
+use Rattle.dh_record.specs.Rows.{rows_of}
+use Rattle.dh_table.specs.States.{state_of}
 use Rattle.dh_table.specs.Tables.{view_of}
-use Rattle.dh_table.proofs.Assembled.{AreValues, walk_fits}
+use Rattle.dh_record.proofs.Assembled.{AreValues, walk_fits}
 use Rattle.dh_table.proofs.Beginnings.{above, not_above}
-use Rattle.dh_table.proofs.DueItems.{ready_value, values_known}
+use Rattle.dh_record.proofs.DueItems.{ready_value, values_known}
 use Rattle.dh_table.proofs.RootEnds.{known_count, needed, no_end}
 use Rattle.dh_table.proofs.RootEnding.{many_end, ready_end, bad_end}
 use Rattle.dh_table.proofs.tables.Table.root.Goals as goal

@@ -6,8 +6,9 @@ use Rattle.dh_imports.specs.Walk.{Ask}
 use Rattle.dh_demand.specs.Digests.{digests_at}
 use Rattle.dh_demand.specs.Results.{ask_of}
 use Rattle.dh_table.specs.Shown.{Shown}
-use Rattle.dh_table.specs.States.{rows_of, state_of}
-use Rattle.dh_table.proofs.ReadBack.{ok_with}
+use Rattle.dh_record.specs.Rows.{rows_of}
+use Rattle.dh_table.specs.States.{state_of}
+use Rattle.dh_record.proofs.ReadBack.{ok_with}
 use Rattle.dh_table.proofs.tables.Table.root_digests.Goals as goal
 
 pub returns : goal.returns

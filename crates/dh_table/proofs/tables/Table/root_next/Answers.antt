@@ -4,7 +4,8 @@ use Rattle.dh_imports.specs.Machine.{root_walk}
 use Rattle.dh_imports.specs.Walk.{Ask, walk}
 use Rattle.dh_demand.specs.Nexts.{IsNext}
 use Rattle.dh_demand.specs.Results.{ask_of}
-use Rattle.dh_table.specs.States.{rows_of, state_of}
+use Rattle.dh_record.specs.Rows.{rows_of}
+use Rattle.dh_table.specs.States.{state_of}
 use Rattle.dh_table.proofs.tables.Table.root_next.Goals as goal
 
 pub returns-clause-next : goal.returns-clause-next

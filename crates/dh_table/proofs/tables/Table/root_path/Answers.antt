@@ -4,8 +4,9 @@ use Rattle.dh_imports.specs.Machine.{outcome_of}
 use Rattle.dh_imports.specs.TextPaths.{text_path}
 use Rattle.dh_imports.specs.Walk.{Ask}
 use Rattle.dh_demand.specs.Results.{ask_of}
-use Rattle.dh_table.specs.States.{rows_of, state_of}
-use Rattle.dh_table.proofs.ReadBack.{ok_with}
+use Rattle.dh_record.specs.Rows.{rows_of}
+use Rattle.dh_table.specs.States.{state_of}
+use Rattle.dh_record.proofs.ReadBack.{ok_with}
 use Rattle.dh_table.proofs.tables.Table.root_path.Goals as goal
 
 pub returns : goal.returns

@@ -1,5 +1,5 @@
 use Rattle.std.proofs.Common.{subst as along}
-use Rattle.dh_table.specs.Brought.{AreShelved, AreTold}
+use Rattle.dh_record.specs.Brought.{AreShelved, AreTold}
 use Rattle.dh_table.specs.Shown.{Shown}
 use Rattle.dh_table.proofs.tables.Table.tells.Goals as goal
 

@@ -5,14 +5,15 @@ use Rattle.dh_imports.specs.Machine as machine
 use Rattle.dh_imports.specs.Machine.{IsDue, InFlight, stage_of}
 use Rattle.dh_imports.specs.Resolver.{stage}
 use Rattle.dh_demand.specs.Results.{ask_of}
-use Rattle.dh_table.specs.Inside.Due.{AreSpelled, IsItem}
-use Rattle.dh_table.specs.Inside.Reading.{record_by}
+use Rattle.dh_record.specs.Due.{AreSpelled, IsItem}
+use Rattle.dh_record.specs.Reading.{record_by}
 use Rattle.dh_table.specs.Inside.Searching.{Stands}
-use Rattle.dh_table.specs.Items.{stage_of_item}
+use Rattle.dh_record.specs.Items.{stage_of_item}
 use Rattle.dh_table.specs.Shown.{Shown}
-use Rattle.dh_table.specs.States.{digest_or_none, key_named, rows_of, state_of, task_by}
+use Rattle.dh_record.specs.Rows.{digest_or_none, key_named, rows_of, task_by}
+use Rattle.dh_table.specs.States.{state_of}
 use Rattle.dh_table.specs.Tables.{view_of}
-use Rattle.dh_table.proofs.Reading.{key_at_names}
+use Rattle.dh_record.proofs.Reading.{key_at_names}
 use Rattle.dh_table.proofs.Seeing.{stage_stands}
 use Rattle.dh_table.proofs.Working.{flies_due, texts_spelled}
 use Rattle.dh_table.proofs.tables.Table.work.Goals as goal

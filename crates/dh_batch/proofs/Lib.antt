@@ -1,0 +1,5 @@
+pub mod BatchLaws
+pub mod Dealt
+pub mod Gathering
+pub mod Moves
+pub mod Served

@@ -1,0 +1,16 @@
+pub mod Brought
+pub mod Due
+pub mod Dues
+pub mod Ends
+pub mod Entering
+pub mod Entries
+pub mod Finds
+pub mod Inside
+pub mod Items
+pub mod Keeping
+pub mod Kept
+pub mod Marks
+pub mod Reading
+pub mod Rows
+pub mod Sorting
+pub mod Values

@@ -1,0 +1,4 @@
+pub mod Decoding
+pub mod Lining
+pub mod Placing
+pub mod Splitting

@@ -1,5 +1,0 @@
-use Rattle.dh_table.specs.Inside.Keeping.{AreLeast}
-use Rattle.dh_table.proofs.fresh.least_fresh.Given as goal
-
-abbrev pub invariant-loop-i : goal.invariant-loop-i
-invariant-loop-i l = AreLeast l.keys l.looks l.marks l.i l.found.items

@@ -1,6 +1,0 @@
-use Rattle.dh_syntax.specs.Expressions.Bridge.{term}
-use Rattle.dh_table.proofs.KeptEntries.{value_below}
-use Rattle.dh_table.proofs.kept.encoded.Goals as goal
-
-pub alpha-requires : goal.alpha-requires
-alpha-requires c = value_below (term c.args.value.now) c.requires

@@ -1,7 +1,0 @@
-use Rattle.std.specs.Prelude.{map, take}
-use Rattle.dh_table.specs.Inside.Keeping.{AreEntries}
-use Rattle.dh_table.specs.Kept.{pair_of}
-use Rattle.dh_table.proofs.kept.entries_of.Given as goal
-
-abbrev pub invariant-loop-n : goal.invariant-loop-n
-invariant-loop-n l = AreEntries l.keys (take l.n-index l.numbers) (map pair_of l.kept)

@@ -1,5 +1,0 @@
-use Rattle.std.specs.Prelude.{length}
-use Rattle.dh_table.proofs.orders.+are_before.Given as goal
-
-abbrev pub decreases-are_before : goal.decreases-are_before
-decreases-are_before l = length l.x.now

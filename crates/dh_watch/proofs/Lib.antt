@@ -1,0 +1,2 @@
+pub mod SourceSteps
+pub mod Watching

@@ -1,0 +1,38 @@
+use Rattle.std.specs.Prelude.{refl}
+use Rattle.std.proofs.Common.{subst}
+use Rattle.dh_record.specs.Entering.{keys_in}
+use Rattle.dh_watch_laws.specs.Asking.{Asked}
+use Rattle.dh_watch_rows.specs.KeptRows.{kept_of}
+use Rattle.dh_watch_runs.specs.Asks.{ComesTo, IsRefused}
+use Rattle.dh_watch.proofs.Watching.{number-is, root-named, stopped-run, watched-same}
+use Rattle.dh_watch.proofs.watchers.Watcher.resolve.Goals as goal
+
+pub returns-in-Err-clause-watched : goal.returns-in-Err-clause-watched
+returns-in-Err-clause-watched g c =
+    watched-same (g.F.Files.now c.args.self.now.source.files) (g.F.Files.now c.args.self.now.source.files) c.args.self.now.source.rows c.enter.new.self c.args.self.now.stale c.requires.watched refl
+    c.enter.ensures.good c.enter.ensures.kept
+
+pub ask-requires-clause-inside : goal.ask-requires-clause-inside
+ask-requires-clause-inside g c = (root-named c.enter.new.self.keys c.args.key c.in-Ok.root c.in-Ok.ensures.number).0
+
+pub returns-in-Ok-ask-clause-asked : goal.returns-in-Ok-ask-clause-asked
+returns-in-Ok-ask-clause-asked g c =
+    let s = kept_of c.ask.new.resolver.rows in
+    let n = c.in-Ok-ask.field-0.fetched in
+    subst (λ old. Asked old c.args.key s n) c.enter.ensures.kept
+    (subst (λ k. Asked (kept_of c.enter.new.self) k s n) (root-named c.enter.new.self.keys c.args.key c.in-Ok.root c.in-Ok.ensures.number).1 c.in-Ok-ask.ensures.asked)
+
+pub returns-in-Ok-ask-clause-ended : goal.returns-in-Ok-ask-clause-ended
+returns-in-Ok-ask-clause-ended g c =
+    subst (λ k. ComesTo k (keys_in c.ask.new.resolver.rows.keys) (kept_of c.ask.new.resolver.rows) c.in-Ok-ask.field-0.end)
+    (root-named c.enter.new.self.keys c.args.key c.in-Ok.root c.in-Ok.ensures.number).1 c.in-Ok-ask.ensures.ended
+
+pub returns-in-Ok-ask-clause-number : goal.returns-in-Ok-ask-clause-number
+returns-in-Ok-ask-clause-number g c = number-is c.enter.new.self.keys c.ask.new.resolver.rows.keys c.args.key c.in-Ok.root c.in-Ok.ensures.number c.ask.ensures.keys
+
+pub returns-in-Err-ask-clause-stopped : goal.returns-in-Err-ask-clause-stopped
+returns-in-Err-ask-clause-stopped g c =
+    let s = kept_of c.ask.new.resolver.rows in
+    stopped-run (kept_of c.args.self.now.source.rows) c.args.key s c.in-Err-ask.stop (c.requires.watched.swept c.requires.fresh)
+    (subst (λ old. IsRefused old c.args.key s c.in-Err-ask.stop) c.enter.ensures.kept
+    (subst (λ k. IsRefused (kept_of c.enter.new.self) k s c.in-Err-ask.stop) (root-named c.enter.new.self.keys c.args.key c.in-Ok.root c.in-Ok.ensures.number).1 c.in-Err-ask.ensures.refused))

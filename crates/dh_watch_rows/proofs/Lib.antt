@@ -1,0 +1,9 @@
+pub mod DecidedRows
+pub mod Gaps
+pub mod Growing
+pub mod RecordedRows
+pub mod Removing
+pub mod Sifted
+pub mod Sifting
+pub mod Standing
+pub mod Undecided

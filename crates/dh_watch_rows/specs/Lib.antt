@@ -1,0 +1,4 @@
+pub mod Inside
+pub mod KeptRows
+pub mod Leaving
+pub mod Removing

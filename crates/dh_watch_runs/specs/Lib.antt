@@ -1,0 +1,4 @@
+pub mod Asks
+pub mod Endings
+pub mod Progressing
+pub mod Resolving

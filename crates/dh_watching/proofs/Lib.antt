@@ -1,0 +1,5 @@
+pub mod Ending
+pub mod Quieting
+pub mod Stepping
+pub mod Texts
+pub mod Trying

@@ -1,0 +1,3 @@
+-- Words of private clauses alone: what a reader must believe stands beside this folder.
+pub mod Gone
+pub mod Read

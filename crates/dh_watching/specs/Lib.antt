@@ -1,0 +1,5 @@
+pub mod Inside
+pub mod QuietRuns
+pub mod Runs
+pub mod Steps
+pub mod Words

@@ -1,1 +1,0 @@
-{ name = "Ann", port = 80 }
