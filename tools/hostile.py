@@ -20,11 +20,11 @@ import tempfile
 import time
 import traceback
 
-from attacks import binary, caches, endless, faults, graphs, growth, json, memory, places, shapes, steps, streams, texts, typed, web, words
+from attacks import batch, binary, caches, endless, faults, gen, graphs, growth, json, memory, places, shapes, steps, streams, texts, typed, watch, web, words
 from attacks.runs import Runs
 
 PARTS = {part.__name__.split(".")[-1]: part for part in (
-    endless, growth, memory, shapes, texts, binary, typed, json, steps, graphs, faults, places, caches, streams, words, web)}
+    endless, growth, memory, shapes, texts, binary, typed, json, steps, graphs, faults, places, caches, batch, gen, streams, words, web, watch)}
 
 
 def run_part(name, program, *options):
@@ -68,12 +68,20 @@ def attack(program, options):
     return 1 if found else 0
 
 
+def copied(program, folder, name):
+    program = shutil.copy(program, os.path.join(folder, name))
+    os.chmod(program, 0o755)
+    return program
+
+
 def main():
     here = os.path.dirname(os.path.abspath(__file__))
     parser = argparse.ArgumentParser(description=__doc__, formatter_class=argparse.RawDescriptionHelpFormatter,
                                      epilog="\n\n".join(f"{name}: {part.__doc__}" for name, part in PARTS.items()))
     parser.add_argument("program", nargs="?", default=os.path.join(here, "..", "crates", "dhall", "out", "dhall"),
                         help="the program (left out: crates/dhall/out/dhall, which `make build` makes)")
+    parser.add_argument("--watcher", default=os.path.join(here, "..", "crates", "dhall_watch", "out", "dhall_watch"),
+                        help="the watcher (left out: crates/dhall_watch/out/dhall_watch); where there is none, its part runs nothing")
     parser.add_argument("--part", action="append", choices=PARTS, help="only this part; may be given again")
     parser.add_argument("--seed", type=int, default=23)
     parser.add_argument("--quick", action="store_true", help="fewer random inputs and fewer sizes")
@@ -83,11 +91,12 @@ def main():
     if not os.access(options.program, os.X_OK):
         sys.exit(f"no program at {options.program}: build it first (make build)")
     print(f"program {os.path.abspath(options.program)}, seed {options.seed}", flush=True)
-    # A copy that any user may run.
+    # Copies that any user may run.
     with tempfile.TemporaryDirectory(prefix="hostile-") as folder:
         os.chmod(folder, 0o755)
-        program = shutil.copy(options.program, os.path.join(folder, "dhall"))
-        os.chmod(program, 0o755)
+        program = copied(options.program, folder, "dhall")
+        if os.access(options.watcher, os.X_OK):
+            copied(options.watcher, folder, "dhall_watch")
         return attack(program, options)
 
 

@@ -3,6 +3,7 @@ folder or a link, entries with the right digest that are no good expression, ent
 missing, read only, a file, no text, full of parts that other writers left; many runs at once, some of them killed; a limit on the size
 of files. A good entry is used, any other is as none, a bad cache changes no answer, and what is kept is whole."""
 
+import contextlib
 import hashlib
 import os
 import random
@@ -254,7 +255,6 @@ def values_of_functions(runs):
 
 def many_runs(runs):
     """Runs beside each other over one cache, some of which are killed on their way: answers are right, and entries whole."""
-    source = random.Random(runs.seed)
     values = [("text", [f"{k}" + "k" * 20_000], []) for k in range(100)]
     forms = [expressions.encoded(v) for v in values]
     root = b"[ " + b", ".join(frozen(f"./f{k}", form) for k, form in enumerate(forms)) + b" ]"
@@ -262,33 +262,40 @@ def many_runs(runs):
     with new_folder() as folder:
         for k, v in enumerate(values):
             write(folder, f"f{k}", expressions.printed(v))
-        cache = os.path.join(folder, "cache")
-        for n in range(runs.few(12, 3)):
-            children = [subprocess.Popen([runs.program, "hash"], stdin=subprocess.PIPE, stdout=subprocess.PIPE, stderr=subprocess.PIPE,
-                                         cwd=folder, env={"XDG_CACHE_HOME": cache}) for _ in range(4)]
-            for child in children:
-                child.stdin.write(root)
+        share_a_cache(runs, folder, ["hash"], root, wanted, forms)
+
+
+def share_a_cache(runs, folder, words, text, wanted, forms):
+    """Four such runs at once, again and again; between them half of the entries are dropped."""
+    source = random.Random(runs.seed)
+    cache = os.path.join(folder, "cache")
+    for n in range(runs.few(12, 3)):
+        children = [subprocess.Popen([runs.program, *words], stdin=subprocess.PIPE, stdout=subprocess.PIPE, stderr=subprocess.PIPE,
+                                     cwd=folder, env={"XDG_CACHE_HOME": cache}) for _ in range(4)]
+        for child in children:
+            with contextlib.suppress(BrokenPipeError):
+                child.stdin.write(text)
                 child.stdin.close()
-            for k, child in enumerate(children):
-                try:
-                    if k % 2:
-                        child.wait(source.random() / 10)
-                    ran = Ran(child.wait(LONG), child.stdout.read(), child.stderr.read())
-                    runs.count("many runs", f"run {k} of {n}", ran.status, 0)
-                    runs.expect(f"run {k} of {n} beside others", ran, wanted)
-                except subprocess.TimeoutExpired:
-                    child.kill()
-                    child.wait()
-                    runs.count("many runs", f"run {k} of {n}", "killed", 0)
-                child.stdout.close()
-                child.stderr.close()
-            whole = {"1220" + digest(form): form for form in forms}
-            entries = {name: data for name, data in found(cache).items() if ".part" not in name}
-            if any(whole.get(name) != data for name, data in entries.items()):
-                runs.report("many runs", "left an entry that is not whole")
-            for name in source.sample(sorted(entries), len(entries) // 2):
-                os.remove(os.path.join(cache, "dhall", name))
-        runs.check("many runs", "afterwards", ["hash"], root, wanted, folder=folder, env={"XDG_CACHE_HOME": cache})
+        for k, child in enumerate(children):
+            try:
+                if k % 2:
+                    child.wait(source.random() / 10)
+                ran = Ran(child.wait(LONG), child.stdout.read(), child.stderr.read())
+                runs.count("many runs", f"run {k} of {n}", ran.status, 0)
+                runs.expect(f"run {k} of {n} beside others", ran, wanted)
+            except subprocess.TimeoutExpired:
+                child.kill()
+                child.wait()
+                runs.count("many runs", f"run {k} of {n}", "killed", 0)
+            child.stdout.close()
+            child.stderr.close()
+        whole = {"1220" + digest(form): form for form in forms}
+        entries = {name: data for name, data in found(cache).items() if ".part" not in name}
+        if any(whole.get(name) != data for name, data in entries.items()):
+            runs.report("many runs", "left an entry that is not whole")
+        for name in source.sample(sorted(entries), len(entries) // 2):
+            os.remove(os.path.join(cache, "dhall", name))
+    runs.check("many runs", "afterwards", words, text, wanted, folder=folder, env={"XDG_CACHE_HOME": cache})
 
 
 def as_texts(runs):

@@ -114,8 +114,9 @@ class Runs:
         self.counts[group, status] += 1
         self.slowest = sorted([*self.slowest, (seconds, name)], reverse=True)[:3]
 
-    def run(self, group, name, words, text=None, folder=None, env=None, before=None, seconds=SECONDS, is_formed=True, **streams):
-        """One run on words and an input, in a folder and with an environment; None where it hangs. `before` runs in the child."""
+    def run(self, group, name, words, text=None, folder=None, env=None, before=None, seconds=SECONDS, is_formed=True, program=None, **streams):
+        """One run on words and an input, in a folder and with an environment; None where it hangs. `before` runs in the child; the program
+        is `dhall`, unless another one is given."""
         streams.setdefault("stdout", subprocess.PIPE)
         streams.setdefault("stderr", subprocess.PIPE)
         if text is not None:
@@ -124,7 +125,7 @@ class Runs:
             streams.setdefault("stdin", subprocess.DEVNULL)
         start = time.monotonic()
         try:
-            done = subprocess.run([self.program, *words], timeout=seconds * self.slowness, preexec_fn=before, cwd=folder,
+            done = subprocess.run([program or self.program, *words], timeout=seconds * self.slowness, preexec_fn=before, cwd=folder,
                                   env={} if env is None else env, **streams)
         except subprocess.TimeoutExpired:
             self.count(group, name, "none", seconds * self.slowness)
