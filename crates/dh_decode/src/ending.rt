@@ -7,36 +7,38 @@ ghost use Rattle.dh_decode.specs.Inside.Views.{place_of, value_of};
 use crate::entries::labels_in;
 use crate::imports::path_part;
 use crate::nodes::{fields_of, interpolated, operated};
-use crate::places::{Place, Value};
+use crate::places::{OpenItem, Value};
 use dh_syntax::Many;
 use std::alloc::{AllocError, Global};
 
-impl<'a> Place<'a> {
+impl<'a> OpenItem<'a> {
     /// What a place without further items is, if it is something.
     #[inline(always)]
     pub fn ended(self, alloc: Global) -> Result<Option<Value<'a>>, AllocError>
         ensures { IfOk result (λ v. option_map value_of v ≡ machine.result stubs (place_of self.entry)) }
     {
         match self {
-            Place::Finished(part) => Ok(Some(Value::Holds(part))),
-            Place::Applying(Some(part)) => Ok(Some(Value::Holds(part))),
-            Place::Operands(form, parts) => Ok(Some(Value::Holds(operated(alloc, form, parts)?))),
-            Place::Projected(part) => {
+            OpenItem::Finished(part) => Ok(Some(Value::Holds(part))),
+            OpenItem::Applying(Some(part)) => Ok(Some(Value::Holds(part))),
+            OpenItem::Operands(form, parts) => Ok(Some(Value::Holds(operated(
+                alloc, form, parts,
+            )?))),
+            OpenItem::Projected(part) => {
                 let labels = Many::new(alloc);
                 Ok(Some(Value::Holds(fields_of(alloc, part, labels)?)))
             }
-            Place::Labelled(part, names) => {
+            OpenItem::Labelled(part, names) => {
                 let labels = labels_in(alloc, names)?;
                 Ok(Some(Value::Holds(fields_of(alloc, part, labels)?)))
             }
-            Place::Between(pieces, parts) => {
+            OpenItem::Between(pieces, parts) => {
                 Ok(Some(Value::Holds(interpolated(alloc, pieces, parts)?)))
             }
-            Place::Components(start, scheme, comps) => {
+            OpenItem::Components(start, scheme, comps) => {
                 Ok(Some(Value::Holds(path_part(alloc, start, scheme, comps)?)))
             }
-            Place::Labels(labels) => Ok(Some(Value::Path(labels))),
-            Place::Key(_, entries) => Ok(Some(Value::Entries(entries))),
+            OpenItem::Labels(labels) => Ok(Some(Value::Path(labels))),
+            OpenItem::Key(_, entries) => Ok(Some(Value::Entries(entries))),
             _ => Ok(None),
         }
     }

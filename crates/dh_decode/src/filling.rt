@@ -13,21 +13,25 @@ use crate::nodes::{
     variable,
 };
 use crate::parts::Part;
-use crate::places::{Binding, Entries, Form, Names, Place, Start, Value};
+use crate::places::{Binding, Entries, Form, Names, OpenItem, Start, Value};
 use crate::rows::row_at;
 use dh_syntax::{BinOp, Digest, Label, Labels, Many, Mode, Piece};
 use std::alloc::{AllocError, Global};
 
 /// An application behind one more part.
-fn applying<'a>(alloc: Global, function: Option<Part>, part: Part) -> Result<Place<'a>, AllocError>
+fn applying<'a>(
+    alloc: Global,
+    function: Option<Part>,
+    part: Part,
+) -> Result<OpenItem<'a>, AllocError>
     ensures { IfOk result (λ p.
         place_of p ≡ machine.fill stubs (machine.applying (option_map part_of function)) (machine.holds (part_of part))) }
 {
     match function {
-        None => Ok(Place::Applying(Some(part))),
+        None => Ok(OpenItem::Applying(Some(part))),
         Some(function) => {
             let made = applied(alloc, function, part)?;
-            Ok(Place::Applying(Some(made)))
+            Ok(OpenItem::Applying(Some(made)))
         }
     }
 }
@@ -40,227 +44,231 @@ fn quantifying<'a>(
     name: &'a str,
     domain: Option<Part>,
     part: Part,
-) -> Result<Place<'a>, AllocError>
+) -> Result<OpenItem<'a>, AllocError>
     ensures { IfOk result (λ p.
         place_of p ≡ machine.fill stubs (machine.quantify (op_of form) name.now (option_map part_of domain)) (machine.holds (part_of part))) }
 {
     match domain {
-        None => Ok(Place::Quantify(form, name, Some(part))),
+        None => Ok(OpenItem::Quantify(form, name, Some(part))),
         Some(domain) => {
             let made = binding(alloc, form.op(), domain, name, part)?;
-            Ok(Place::Finished(made))
+            Ok(OpenItem::Finished(made))
         }
     }
 }
 
-impl<'a> Place<'a> {
+impl<'a> OpenItem<'a> {
     /// The place behind null.
-    fn behind_null(self, alloc: Global) -> Result<Place<'a>, AllocError>
+    fn behind_null(self, alloc: Global) -> Result<OpenItem<'a>, AllocError>
         ensures { IfOk result (λ p. place_of p ≡ machine.fill stubs (place_of self.entry) machine.nothing) }
     {
         match self {
-            Place::Skipping(form) => Ok(Place::Operands(form, Many::new(alloc))),
-            Place::Headers(start, secure) => Ok(Place::Hosting(start, secure)),
-            Place::LetType(bindings, name) => Ok(Place::LetValue(bindings, name, None)),
-            Place::Value(nulls, entries, name) => {
-                Ok(Place::Key(nulls, put_entry(entries, name, None)?))
+            OpenItem::Skipping(form) => Ok(OpenItem::Operands(form, Many::new(alloc))),
+            OpenItem::Headers(start, secure) => Ok(OpenItem::Hosting(start, secure)),
+            OpenItem::LetType(bindings, name) => Ok(OpenItem::LetValue(bindings, name, None)),
+            OpenItem::Value(nulls, entries, name) => {
+                Ok(OpenItem::Key(nulls, put_entry(entries, name, None)?))
             }
             other => Ok(other),
         }
     }
 
     /// The place behind a number that is not negative.
-    fn behind_number(self, alloc: Global, n: u128) -> Result<Place<'a>, AllocError>
+    fn behind_number(self, alloc: Global, n: u128) -> Result<OpenItem<'a>, AllocError>
         ensures { IfOk result (λ p. place_of p ≡ machine.fill stubs (place_of self.entry) (machine.counted n)) }
     {
         match self {
-            Place::Numeral => Ok(Place::Finished(natural_part(alloc, n)?)),
-            Place::Locating(start) => Ok(located(alloc, start, n)?),
+            OpenItem::Numeral => Ok(OpenItem::Finished(natural_part(alloc, n)?)),
+            OpenItem::Locating(start) => Ok(located(alloc, start, n)?),
             other => Ok(other),
         }
     }
 
     /// The place behind an index.
-    fn behind_index(self, alloc: Global, n: u32) -> Result<Place<'a>, AllocError>
+    fn behind_index(self, alloc: Global, n: u32) -> Result<OpenItem<'a>, AllocError>
         ensures { IfOk result (λ p. place_of p ≡ machine.fill stubs (place_of self.entry) (machine.indexed n)) }
     {
         match self {
-            Place::Indexing(name) => Ok(Place::Finished(variable(alloc, name, n)?)),
+            OpenItem::Indexing(name) => Ok(OpenItem::Finished(variable(alloc, name, n)?)),
             other => Ok(other),
         }
     }
 
     /// The place behind an integer.
-    fn behind_integer(self, alloc: Global, z: i128) -> Result<Place<'a>, AllocError>
+    fn behind_integer(self, alloc: Global, z: i128) -> Result<OpenItem<'a>, AllocError>
         ensures { IfOk result (λ p. place_of p ≡ machine.fill stubs (place_of self.entry) (machine.signed z)) }
     {
         match self {
-            Place::SignedNumeral => Ok(Place::Finished(integer_part(alloc, z)?)),
+            OpenItem::SignedNumeral => Ok(OpenItem::Finished(integer_part(alloc, z)?)),
             other => Ok(other),
         }
     }
 
     /// The place behind the first number of an array.
-    fn behind_code(self, alloc: Global, code: u64, items: u128) -> Place<'a>
+    fn behind_code(self, alloc: Global, code: u64, items: u128) -> OpenItem<'a>
         ensures { place_of result ≡ machine.fill stubs (place_of self.entry) (machine.coded code items) }
     {
         match self {
-            Place::First => match row_at(alloc, code, items) {
+            OpenItem::First => match row_at(alloc, code, items) {
                 Some(place) => place,
-                None => Place::First,
+                None => OpenItem::First,
             },
             other => other,
         }
     }
 
     /// The place behind an operator.
-    fn behind_operator(self, alloc: Global, operator: BinOp) -> Place<'a>
+    fn behind_operator(self, alloc: Global, operator: BinOp) -> OpenItem<'a>
         ensures { place_of result ≡ machine.fill stubs (place_of self.entry) (machine.by operator) }
     {
         match self {
-            Place::Operating => Place::Operands(Form::By(operator), Many::new(alloc)),
+            OpenItem::Operating => OpenItem::Operands(Form::By(operator), Many::new(alloc)),
             other => other,
         }
     }
 
     /// The place behind the digest of an import.
-    fn behind_digest(self, digest: Option<Box<Digest>>) -> Place<'a>
+    fn behind_digest(self, digest: Option<Box<Digest>>) -> OpenItem<'a>
         ensures { place_of result ≡ machine.fill stubs (place_of self.entry) (machine.hashed (digest_of digest)) }
     {
         match self {
-            Place::Importing => Place::Moding(digest),
+            OpenItem::Importing => OpenItem::Moding(digest),
             other => other,
         }
     }
 
     /// The place behind the mode of an import.
-    fn behind_mode(self, mode: Mode) -> Place<'a>
+    fn behind_mode(self, mode: Mode) -> OpenItem<'a>
         ensures { place_of result ≡ machine.fill stubs (place_of self.entry) (machine.taken mode) }
     {
         match self {
-            Place::Moding(digest) => Place::Locating(Start { digest, mode }),
+            OpenItem::Moding(digest) => OpenItem::Locating(Start { digest, mode }),
             other => other,
         }
     }
 
     /// The place behind the query of a URL.
-    fn behind_query(self, alloc: Global, query: Option<&'a str>) -> Result<Place<'a>, AllocError>
+    fn behind_query(self, alloc: Global, query: Option<&'a str>) -> Result<OpenItem<'a>, AllocError>
         ensures { IfOk result (λ p.
             place_of p ≡ machine.fill stubs (place_of self.entry) (machine.queried (option_map (λ x. x.now) query.entry))) }
     {
         match self {
-            Place::Segments(start, secure, host, comps) => {
+            OpenItem::Segments(start, secure, host, comps) => {
                 let part = url_part(alloc, start, secure, host, comps, query)?;
-                Ok(Place::Finished(part))
+                Ok(OpenItem::Finished(part))
             }
             other => Ok(other),
         }
     }
 
     /// The place behind the path of an update.
-    fn behind_path(self, labels: Labels) -> Place<'a>
+    fn behind_path(self, labels: Labels) -> OpenItem<'a>
         ensures { place_of result ≡ machine.fill stubs (place_of self.entry) (machine.names labels) }
     {
         match self {
-            Place::UpdatePath(part) => Place::UpdateValue(part, labels),
+            OpenItem::UpdatePath(part) => OpenItem::UpdateValue(part, labels),
             other => other,
         }
     }
 
     /// The place behind a map.
-    fn behind_entries(self, alloc: Global, entries: Entries<'a>) -> Result<Place<'a>, AllocError>
+    fn behind_entries(self, alloc: Global, entries: Entries<'a>) -> Result<OpenItem<'a>, AllocError>
         ensures { IfOk result (λ p.
             place_of p ≡ machine.fill stubs (place_of self.entry) (machine.entries (entries_of entries.entry.entries))) }
     {
         match self {
-            Place::Rowing(kind) => Ok(Place::Finished(row_made(alloc, kind, entries)?)),
+            OpenItem::Rowing(kind) => Ok(OpenItem::Finished(row_made(alloc, kind, entries)?)),
             other => Ok(other),
         }
     }
 
     /// The place behind a text.
-    fn behind_text(self, alloc: Global, text: &'a str) -> Result<Place<'a>, AllocError>
+    fn behind_text(self, alloc: Global, text: &'a str) -> Result<OpenItem<'a>, AllocError>
         ensures { IfOk result (λ p. place_of p ≡ machine.fill stubs (place_of self.entry) (machine.called text.now)) }
     {
         match self {
-            Place::First => Ok(Place::Indexing(text)),
-            Place::Binder(form) => Ok(Place::Quantify(form, text, None)),
-            Place::Selected(part) => Ok(Place::Finished(field_of(alloc, part, text)?)),
-            Place::Labelled(part, names) => Ok(Place::Labelled(part, put_name(names, text)?)),
-            Place::Projected(part) => {
-                Ok(Place::Labelled(part, put_name(Names::new(alloc), text)?))
+            OpenItem::First => Ok(OpenItem::Indexing(text)),
+            OpenItem::Binder(form) => Ok(OpenItem::Quantify(form, text, None)),
+            OpenItem::Selected(part) => Ok(OpenItem::Finished(field_of(alloc, part, text)?)),
+            OpenItem::Labelled(part, names) => Ok(OpenItem::Labelled(part, put_name(names, text)?)),
+            OpenItem::Projected(part) => {
+                Ok(OpenItem::Labelled(part, put_name(Names::new(alloc), text)?))
             }
-            Place::Piece(mut pieces, parts) => {
+            OpenItem::Piece(mut pieces, parts) => {
                 pieces.push(Piece::new(alloc, text)?)?;
-                Ok(Place::Between(pieces, parts))
+                Ok(OpenItem::Between(pieces, parts))
             }
-            Place::Components(start, scheme, mut comps) => {
+            OpenItem::Components(start, scheme, mut comps) => {
                 comps.push(Piece::new(alloc, text)?)?;
-                Ok(Place::Components(start, scheme, comps))
+                Ok(OpenItem::Components(start, scheme, comps))
             }
-            Place::Hosting(start, secure) => {
-                Ok(Place::Segments(start, secure, text, Many::new(alloc)))
+            OpenItem::Hosting(start, secure) => {
+                Ok(OpenItem::Segments(start, secure, text, Many::new(alloc)))
             }
-            Place::Segments(start, secure, host, mut comps) => {
+            OpenItem::Segments(start, secure, host, mut comps) => {
                 comps.push(Piece::new(alloc, text)?)?;
-                Ok(Place::Segments(start, secure, host, comps))
+                Ok(OpenItem::Segments(start, secure, host, comps))
             }
-            Place::Environment(start) => {
-                Ok(Place::Finished(environment_part(alloc, start, text)?))
+            OpenItem::Environment(start) => {
+                Ok(OpenItem::Finished(environment_part(alloc, start, text)?))
             }
-            Place::LetName(bindings) => Ok(Place::LetType(bindings, text)),
-            Place::Labels(mut labels) => {
+            OpenItem::LetName(bindings) => Ok(OpenItem::LetType(bindings, text)),
+            OpenItem::Labels(mut labels) => {
                 labels.push(Label::new(alloc, text)?)?;
-                Ok(Place::Labels(labels))
+                Ok(OpenItem::Labels(labels))
             }
-            Place::Key(nulls, entries) => Ok(Place::Value(nulls, entries, text)),
+            OpenItem::Key(nulls, entries) => Ok(OpenItem::Value(nulls, entries, text)),
             other => Ok(other),
         }
     }
 
     /// The place behind an expression.
-    fn behind_part(self, alloc: Global, part: Part) -> Result<Place<'a>, AllocError>
+    fn behind_part(self, alloc: Global, part: Part) -> Result<OpenItem<'a>, AllocError>
         ensures { IfOk result (λ p. place_of p ≡ machine.fill stubs (place_of self.entry) (machine.holds (part_of part))) }
     {
         match self {
-            Place::Applying(function) => applying(alloc, function, part),
-            Place::Operands(form, mut parts) => {
+            OpenItem::Applying(function) => applying(alloc, function, part),
+            OpenItem::Operands(form, mut parts) => {
                 parts.push(part)?;
-                Ok(Place::Operands(form, parts))
+                Ok(OpenItem::Operands(form, parts))
             }
-            Place::Quantify(form, name, domain) => quantifying(alloc, form, name, domain, part),
-            Place::Emptied => Ok(Place::Finished(emptied(alloc, part)?)),
-            Place::Selecting => Ok(Place::Selected(part)),
-            Place::Projecting => Ok(Place::Projected(part)),
-            Place::Projected(record) => Ok(Place::Finished(typed_fields_of(alloc, record, part)?)),
-            Place::Between(pieces, mut parts) => {
+            OpenItem::Quantify(form, name, domain) => quantifying(alloc, form, name, domain, part),
+            OpenItem::Emptied => Ok(OpenItem::Finished(emptied(alloc, part)?)),
+            OpenItem::Selecting => Ok(OpenItem::Selected(part)),
+            OpenItem::Projecting => Ok(OpenItem::Projected(part)),
+            OpenItem::Projected(record) => Ok(OpenItem::Finished(typed_fields_of(
+                alloc, record, part,
+            )?)),
+            OpenItem::Between(pieces, mut parts) => {
                 parts.push(part)?;
-                Ok(Place::Piece(pieces, parts))
+                Ok(OpenItem::Piece(pieces, parts))
             }
-            Place::LetName(bindings) => Ok(Place::Finished(lets_made(alloc, bindings, part)?)),
-            Place::LetType(bindings, name) => Ok(Place::LetValue(bindings, name, Some(part))),
-            Place::LetValue(mut bindings, name, annotation) => {
+            OpenItem::LetName(bindings) => Ok(OpenItem::Finished(lets_made(
+                alloc, bindings, part,
+            )?)),
+            OpenItem::LetType(bindings, name) => Ok(OpenItem::LetValue(bindings, name, Some(part))),
+            OpenItem::LetValue(mut bindings, name, annotation) => {
                 bindings.push(Binding {
                     name,
                     annotation,
                     value: part,
                 })?;
-                Ok(Place::LetName(bindings))
+                Ok(OpenItem::LetName(bindings))
             }
-            Place::Updating => Ok(Place::UpdatePath(part)),
-            Place::UpdateValue(record, labels) => {
-                Ok(Place::Finished(updated(alloc, record, labels, part)?))
+            OpenItem::Updating => Ok(OpenItem::UpdatePath(part)),
+            OpenItem::UpdateValue(record, labels) => {
+                Ok(OpenItem::Finished(updated(alloc, record, labels, part)?))
             }
-            Place::Boxing => Ok(Place::Finished(part)),
-            Place::Value(nulls, entries, name) => {
-                Ok(Place::Key(nulls, put_entry(entries, name, Some(part))?))
+            OpenItem::Boxing => Ok(OpenItem::Finished(part)),
+            OpenItem::Value(nulls, entries, name) => {
+                Ok(OpenItem::Key(nulls, put_entry(entries, name, Some(part))?))
             }
             other => Ok(other),
         }
     }
 
     /// The place behind an item.
-    pub fn filled(self, alloc: Global, value: Value<'a>) -> Result<Place<'a>, AllocError>
+    pub fn filled(self, alloc: Global, value: Value<'a>) -> Result<OpenItem<'a>, AllocError>
         ensures { IfOk result (λ p. place_of p ≡ machine.fill stubs (place_of self.entry) (value_of value.entry)) }
     {
         match value {

@@ -7,7 +7,7 @@ ghost use Rattle.dh_decode.specs.Inside.Views.{part_of, digest_of, place_of, sta
 
 use crate::nodes::bare;
 use crate::parts::Part;
-use crate::places::{Place, Start};
+use crate::places::{OpenItem, Start};
 use dh_syntax::{BoxedImport, Comps, Digest, Import, Loc, Many, Op, Piece, Url};
 use std::alloc::{AllocError, Global};
 
@@ -34,18 +34,18 @@ fn import_at(alloc: Global, start: Start, loc: Loc) -> Result<Part, AllocError>
 
 /// What comes behind the scheme of a location.
 #[inline(never)]
-pub fn located<'a>(alloc: Global, start: Start, scheme: u128) -> Result<Place<'a>, AllocError>
+pub fn located<'a>(alloc: Global, start: Start, scheme: u128) -> Result<OpenItem<'a>, AllocError>
     ensures { IfOk result (λ p. place_of p ≡ machine.located stubs (start_of start) scheme) }
 {
     match scheme {
-        0 => Ok(Place::Headers(start, false)),
-        1 => Ok(Place::Headers(start, true)),
-        2 => Ok(Place::Components(start, 2, Many::new(alloc))),
-        3 => Ok(Place::Components(start, 3, Many::new(alloc))),
-        4 => Ok(Place::Components(start, 4, Many::new(alloc))),
-        5 => Ok(Place::Components(start, 5, Many::new(alloc))),
-        6 => Ok(Place::Environment(start)),
-        _ => Ok(Place::Finished(import_at(alloc, start, Loc::Missing)?)),
+        0 => Ok(OpenItem::Headers(start, false)),
+        1 => Ok(OpenItem::Headers(start, true)),
+        2 => Ok(OpenItem::Components(start, 2, Many::new(alloc))),
+        3 => Ok(OpenItem::Components(start, 3, Many::new(alloc))),
+        4 => Ok(OpenItem::Components(start, 4, Many::new(alloc))),
+        5 => Ok(OpenItem::Components(start, 5, Many::new(alloc))),
+        6 => Ok(OpenItem::Environment(start)),
+        _ => Ok(OpenItem::Finished(import_at(alloc, start, Loc::Missing)?)),
     }
 }
 

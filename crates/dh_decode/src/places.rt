@@ -94,7 +94,7 @@ pub enum RowKind {
 
 /// An open array or map, with what was made of its items. It is moved at each item, so what is large stands in a box.
 #[derive(Drop)]
-pub enum Place<'a> {
+pub enum OpenItem<'a> {
     /// `[ ]`
     First,
     /// All is read.
@@ -172,7 +172,7 @@ pub enum Place<'a> {
 /// An open array or map, and how many items come behind the one that is read.
 #[derive(Drop)]
 pub struct Frame<'a> {
-    pub place: Place<'a>,
+    pub place: OpenItem<'a>,
     pub left: u128,
 }
 

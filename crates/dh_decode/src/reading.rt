@@ -12,7 +12,7 @@ ghost use Rattle.dh_decode.specs.Inside.Views.{place_of, value_of, frames_of};
 
 use crate::entries::{has_entry, has_name};
 use crate::piles::Pile;
-use crate::places::{Entries, Frame, Place, Test, Value, Want};
+use crate::places::{Entries, Frame, OpenItem, Test, Value, Want};
 use crate::rows::when;
 use crate::stops::Stop;
 use crate::taking::{
@@ -44,7 +44,7 @@ impl<'a> Reader<'a> {
 
     /// Waits for an item of a place, with so many behind it.
     #[inline(always)]
-    fn wait(&mut self, place: Place<'a>, left: u128) -> Result<(), Stop>
+    fn wait(&mut self, place: OpenItem<'a>, left: u128) -> Result<(), Stop>
         ensures ok { IfOk result (λ u.
             state_of self.new.want self.new.frames ≡ machine.reading (machine.want (place_of place.entry) left)
             (record { place = place_of place.entry; left = left } ∷ frames_of self.old.frames)) }
@@ -60,7 +60,7 @@ impl<'a> Reader<'a> {
     fn close(
         &mut self,
         alloc: Global,
-        place: Place<'a>,
+        place: OpenItem<'a>,
         left: u128,
     ) -> Result<Option<Value<'a>>, Stop>
         ensures ok { IfOk result (λ o.
@@ -105,7 +105,7 @@ impl<'a> Reader<'a> {
     fn settle(
         &mut self,
         alloc: Global,
-        place: Place<'a>,
+        place: OpenItem<'a>,
         left: u128,
     ) -> Result<Option<Value<'a>>, Stop>
         ensures ok { IfOk result (λ o.
@@ -127,7 +127,7 @@ impl<'a> Reader<'a> {
         match self.frames.top() {
             Some(
                 Frame {
-                    place: Place::Labelled(_, names),
+                    place: OpenItem::Labelled(_, names),
                     left: _,
                 },
             ) => has_name(names, name),
@@ -143,7 +143,7 @@ impl<'a> Reader<'a> {
         match self.frames.top() {
             Some(
                 Frame {
-                    place: Place::Key(_, entries),
+                    place: OpenItem::Key(_, entries),
                     left: _,
                 },
             ) => has_entry(entries, name),
@@ -210,13 +210,13 @@ impl<'a> Reader<'a> {
     }
 
     /// The place of an array of so many items.
-    fn array(&self, alloc: Global, items: u64) -> Option<Place<'a>>
+    fn array(&self, alloc: Global, items: u64) -> Option<OpenItem<'a>>
         ensures { option_map place_of result ≡ machine.array_as stubs (want_of self.now.want (frames_of self.now.frames)) items }
     {
         match self.want {
-            Want::Term | Want::Whole | Want::Nullable => when(items >= 2, Place::First),
-            Want::Path => when(items >= 1, Place::Labels(Many::new(alloc))),
-            Want::Boxed => when(items == 1, Place::Boxing),
+            Want::Term | Want::Whole | Want::Nullable => when(items >= 2, OpenItem::First),
+            Want::Path => when(items >= 1, OpenItem::Labels(Many::new(alloc))),
+            Want::Boxed => when(items == 1, OpenItem::Boxing),
             Want::Opening(_) | Want::Spelled(_) | Want::FreshLabel | Want::FreshKey => None,
             Want::Null | Want::Index | Want::OperatorCode | Want::Digest | Want::Mode => None,
             Want::Scheme(_) | Want::Query | Want::Natural | Want::Integer => None,
@@ -225,11 +225,11 @@ impl<'a> Reader<'a> {
     }
 
     /// The place of a map.
-    fn map(&self, alloc: Global) -> Option<Place<'a>>
+    fn map(&self, alloc: Global) -> Option<OpenItem<'a>>
         ensures { option_map place_of result ≡ machine.map_as stubs (want_of self.now.want (frames_of self.now.frames)) }
     {
         match self.want {
-            Want::Rows(nulls) => Some(Place::Key(nulls, Entries::new(alloc))),
+            Want::Rows(nulls) => Some(OpenItem::Key(nulls, Entries::new(alloc))),
             Want::Term | Want::Whole | Want::Nullable | Want::Path | Want::Boxed => None,
             Want::Opening(_) | Want::Spelled(_) | Want::FreshLabel | Want::FreshKey => None,
             Want::Null | Want::Index | Want::OperatorCode | Want::Digest | Want::Mode => None,
@@ -242,7 +242,7 @@ impl<'a> Reader<'a> {
     fn open(
         &mut self,
         alloc: Global,
-        place: Option<Place<'a>>,
+        place: Option<OpenItem<'a>>,
         items: u128,
     ) -> Result<Option<Value<'a>>, Stop>
         ensures ok { IfOk result (λ o.

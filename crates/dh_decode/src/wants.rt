@@ -7,7 +7,7 @@ ghost use Rattle.dh_binary.specs.Stubs.{Kept, stubs};
 ghost use Rattle.dh_decode.specs.Inside.Views.{place_of};
 ghost use Rattle.dh_decode.specs.Inside.States.{want_of};
 
-use crate::places::{Place, RowKind, Test, Want};
+use crate::places::{OpenItem, RowKind, Test, Want};
 
 impl Want {
     /// Whether it is the string of a bignum.
@@ -44,50 +44,51 @@ impl Want {
     }
 }
 
-impl<'a> Place<'a> {
+impl<'a> OpenItem<'a> {
     /// What the next item is wanted as, where so many come behind it.
     pub fn want(&self, left: u128) -> Want
         ensures { (st : List (Frame Kept)) →
             want_of result (record { place = place_of self.now; left = left } ∷ st) ≡ want (place_of self.now) left }
     {
         match self {
-            Place::First => Want::Opening(left),
-            Place::Finished(_) => Want::None,
-            Place::Applying(_) | Place::Operands(_, _) | Place::Quantify(_, _, _) => Want::Term,
-            Place::Binder(_) => Want::Spelled(Test::Named),
-            Place::Operating => Want::OperatorCode,
-            Place::Emptied | Place::Selecting | Place::Projecting => Want::Term,
-            Place::Skipping(_) => Want::Null,
-            Place::Rowing(RowKind::Types | RowKind::Values) => Want::Rows(false),
-            Place::Rowing(RowKind::Alternatives) => Want::Rows(true),
-            Place::Selected(_) => Want::Spelled(Test::Label),
-            Place::Projected(_) if left == 0 => Want::Boxed,
-            Place::Projected(_) => Want::Spelled(Test::Label),
-            Place::Labelled(_, _) => Want::FreshLabel,
-            Place::Numeral => Want::Natural,
-            Place::SignedNumeral => Want::Integer,
-            Place::Piece(_, _) => Want::Spelled(Test::Utf8),
-            Place::Between(_, _) => Want::Term,
-            Place::Importing => Want::Digest,
-            Place::Moding(_) => Want::Mode,
-            Place::Locating(_) => Want::Scheme(left),
-            Place::Components(_, _, _) => Want::Spelled(Test::Component),
-            Place::Headers(_, _) => Want::Null,
-            Place::Hosting(_, _) => Want::Spelled(Test::Host),
-            Place::Segments(_, _, _, _) if left == 0 => Want::Query,
-            Place::Segments(_, _, _, _) => Want::Spelled(Test::Segment),
-            Place::Environment(_) => Want::Spelled(Test::Environment),
-            Place::LetName(_) if left == 0 => Want::Term,
-            Place::LetName(_) => Want::Spelled(Test::Label),
-            Place::LetType(_, _) => Want::Nullable,
-            Place::LetValue(_, _, _) => Want::Term,
-            Place::Updating | Place::UpdateValue(_, _) | Place::Boxing => Want::Term,
-            Place::UpdatePath(_) => Want::Path,
-            Place::Indexing(_) => Want::Index,
-            Place::Labels(_) => Want::Spelled(Test::Label),
-            Place::Key(_, _) => Want::FreshKey,
-            Place::Value(true, _, _) => Want::Nullable,
-            Place::Value(false, _, _) => Want::Term,
+            OpenItem::First => Want::Opening(left),
+            OpenItem::Finished(_) => Want::None,
+            OpenItem::Applying(_) | OpenItem::Operands(_, _) | OpenItem::Quantify(_, _, _) =>
+                Want::Term,
+            OpenItem::Binder(_) => Want::Spelled(Test::Named),
+            OpenItem::Operating => Want::OperatorCode,
+            OpenItem::Emptied | OpenItem::Selecting | OpenItem::Projecting => Want::Term,
+            OpenItem::Skipping(_) => Want::Null,
+            OpenItem::Rowing(RowKind::Types | RowKind::Values) => Want::Rows(false),
+            OpenItem::Rowing(RowKind::Alternatives) => Want::Rows(true),
+            OpenItem::Selected(_) => Want::Spelled(Test::Label),
+            OpenItem::Projected(_) if left == 0 => Want::Boxed,
+            OpenItem::Projected(_) => Want::Spelled(Test::Label),
+            OpenItem::Labelled(_, _) => Want::FreshLabel,
+            OpenItem::Numeral => Want::Natural,
+            OpenItem::SignedNumeral => Want::Integer,
+            OpenItem::Piece(_, _) => Want::Spelled(Test::Utf8),
+            OpenItem::Between(_, _) => Want::Term,
+            OpenItem::Importing => Want::Digest,
+            OpenItem::Moding(_) => Want::Mode,
+            OpenItem::Locating(_) => Want::Scheme(left),
+            OpenItem::Components(_, _, _) => Want::Spelled(Test::Component),
+            OpenItem::Headers(_, _) => Want::Null,
+            OpenItem::Hosting(_, _) => Want::Spelled(Test::Host),
+            OpenItem::Segments(_, _, _, _) if left == 0 => Want::Query,
+            OpenItem::Segments(_, _, _, _) => Want::Spelled(Test::Segment),
+            OpenItem::Environment(_) => Want::Spelled(Test::Environment),
+            OpenItem::LetName(_) if left == 0 => Want::Term,
+            OpenItem::LetName(_) => Want::Spelled(Test::Label),
+            OpenItem::LetType(_, _) => Want::Nullable,
+            OpenItem::LetValue(_, _, _) => Want::Term,
+            OpenItem::Updating | OpenItem::UpdateValue(_, _) | OpenItem::Boxing => Want::Term,
+            OpenItem::UpdatePath(_) => Want::Path,
+            OpenItem::Indexing(_) => Want::Index,
+            OpenItem::Labels(_) => Want::Spelled(Test::Label),
+            OpenItem::Key(_, _) => Want::FreshKey,
+            OpenItem::Value(true, _, _) => Want::Nullable,
+            OpenItem::Value(false, _, _) => Want::Term,
         }
     }
 }

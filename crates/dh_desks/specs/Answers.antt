@@ -6,8 +6,8 @@ use Rattle.dh_ports.specs.declared.desks.DeskError.{DeskError}
 use Rattle.dh_ports.specs.declared.desks.DeskError.TheVariants.{Memory}
 use Rattle.dh_ports.specs.declared.worlds.Got.{Got}
 use Rattle.dh_ports.specs.declared.worlds.Got.TheVariants.{Absent, Broken}
-use Rattle.dh_desks.specs.declared.places.Place.{Place}
-use Rattle.dh_desks.specs.declared.places.Place.TheVariants as at
+use Rattle.dh_desks.specs.declared.places.Source.{Source}
+use Rattle.dh_desks.specs.declared.places.Source.TheVariants as at
 
 -- nothing has that name, a file stands where the path has a folder, or the name is that of a folder
 abbrev pub MeansNoFile : ErrorKind → Type 0
@@ -18,7 +18,7 @@ abbrev pub AnswersOnly : {A : Type 0} → Result A DeskError → A → Type 0
 AnswersOnly r x = MatchResult r (λ y. y ≡ x) (λ e. e ≡ Memory)
 
 -- what a place alone decides of the answer
-abbrev pub DecidedBy : Place → Result Got DeskError → Type 0
+abbrev pub DecidedBy : Source → Result Got DeskError → Type 0
 DecidedBy (at.File path) r = ⊤
 DecidedBy (at.Variable name) r = ⊤
 DecidedBy at.Nowhere r = AnswersOnly r Absent

@@ -7,8 +7,8 @@ use Rattle.dh_syntax.specs.declared.locations.Loc.{Loc}
 use Rattle.dh_syntax.specs.declared.locations.Loc.TheVariants as loc
 use Rattle.dh_desks.specs.declared.folders.Folder.{Folder}
 use Rattle.dh_desks.specs.declared.folders.Folder.TheVariants.{Unset, At, Untold}
-use Rattle.dh_desks.specs.declared.places.Place.{Place}
-use Rattle.dh_desks.specs.declared.places.Place.TheVariants as at
+use Rattle.dh_desks.specs.declared.places.Source.{Source}
+use Rattle.dh_desks.specs.declared.places.Source.TheVariants as at
 
 -- a folder that is set to this path: to nothing counts as unset
 abbrev pub named : List ℕ → Folder
@@ -32,13 +32,13 @@ entry_name d = codes "/1220" ++ encode_lower d.0
 
 -- ---- places
 
-abbrev pub in_folder : Folder → Place
+abbrev pub in_folder : Folder → Source
 in_folder Unset = at.Nowhere
 in_folder (At path) = at.File path
 in_folder Untold = at.Untold
 
 -- The place of a location, where `~` stands for this folder. A path has its components as they are, each behind a slash.
-abbrev pub place : Folder → Loc → Place
+abbrev pub place : Folder → Loc → Source
 place home (loc.Abs cs) = at.File (slashed cs)
 place home (loc.Here cs) = at.File (codes "." ++ slashed cs)
 place home (loc.Parent cs) = at.File (codes ".." ++ slashed cs)

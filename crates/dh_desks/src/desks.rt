@@ -9,7 +9,7 @@ ghost use Rattle.dh_desks.specs.Places.{place};
 
 use crate::entries::{read_entry, write_entry};
 use crate::folders::{Folder, Folders};
-use crate::places::{Place, entry_file, place_of};
+use crate::places::{Source, entry_file, place_of};
 use crate::reading::{file_text, variable_text};
 use dh_ports::{Desk, DeskError, Got, Silent};
 use dh_syntax::{Bytes, Digest, Loc, MOST_WORKERS};
@@ -109,12 +109,12 @@ fn found_at<R: Files + Env + Net>(
     ensures decided { DecidedBy (place home.now loc.now) result }
 {
     match place_of(alloc, home, loc)? {
-        Place::File(path) => file_text(rt, alloc, path.as_str()),
-        Place::Variable(name) => variable_text(rt, alloc, name.as_str()),
-        Place::Nowhere => Ok(Got::Absent),
-        Place::Web(url) => web_text(rt, alloc, &url),
-        Place::Barred => Ok(Got::Broken(0)),
-        Place::Untold => Err(DeskError::Failed),
+        Source::File(path) => file_text(rt, alloc, path.as_str()),
+        Source::Variable(name) => variable_text(rt, alloc, name.as_str()),
+        Source::Nowhere => Ok(Got::Absent),
+        Source::Web(url) => web_text(rt, alloc, &url),
+        Source::Barred => Ok(Got::Broken(0)),
+        Source::Untold => Err(DeskError::Failed),
     }
 }
 

@@ -10,7 +10,7 @@ use std::alloc::{AllocError, Global};
 
 /// Where a location is looked for.
 #[derive(Debug, Drop)]
-pub(crate) enum Place {
+pub(crate) enum Source {
     /// In the file of this path.
     File(Piece),
     /// In the variable of this name.
@@ -45,17 +45,17 @@ fn path_from(alloc: Global, root: &str, comps: &Comps) -> Result<Piece, AllocErr
     Ok(Piece::of(text))
 }
 
-fn in_folder(folder: Folder) -> Place
+fn in_folder(folder: Folder) -> Source
     ensures { result ≡ spec.in_folder folder }
 {
     match folder {
-        Folder::Unset => Place::Nowhere,
-        Folder::At(path) => Place::File(path),
-        Folder::Untold => Place::Untold,
+        Folder::Unset => Source::Nowhere,
+        Folder::At(path) => Source::File(path),
+        Folder::Untold => Source::Untold,
     }
 }
 
-fn in_home(alloc: Global, home: &Folder, comps: &Comps) -> Result<Place, AllocError>
+fn in_home(alloc: Global, home: &Folder, comps: &Comps) -> Result<Source, AllocError>
     ensures { IfOk result (λ p. p ≡ spec.in_folder (spec.below home.now (slashed comps.now))) }
 {
     let rest = path_from(alloc, "", comps)?;
@@ -63,18 +63,18 @@ fn in_home(alloc: Global, home: &Folder, comps: &Comps) -> Result<Place, AllocEr
 }
 
 /// The place of a location, where `~` stands for this folder.
-pub(crate) fn place_of(alloc: Global, home: &Folder, loc: &Loc) -> Result<Place, AllocError>
+pub(crate) fn place_of(alloc: Global, home: &Folder, loc: &Loc) -> Result<Source, AllocError>
     ensures { IfOk result (λ p. p ≡ spec.place home.now loc.now) }
 {
     match loc {
-        Loc::Abs(comps) => Ok(Place::File(path_from(alloc, "", comps)?)),
-        Loc::Here(comps) => Ok(Place::File(path_from(alloc, ".", comps)?)),
-        Loc::Parent(comps) => Ok(Place::File(path_from(alloc, "..", comps)?)),
+        Loc::Abs(comps) => Ok(Source::File(path_from(alloc, "", comps)?)),
+        Loc::Here(comps) => Ok(Source::File(path_from(alloc, ".", comps)?)),
+        Loc::Parent(comps) => Ok(Source::File(path_from(alloc, "..", comps)?)),
         Loc::Home(comps) => in_home(alloc, home, comps),
-        Loc::Http(url) => Ok(Place::Web(url.copied(alloc)?)),
-        Loc::Https(_) => Ok(Place::Barred),
-        Loc::Env(name) => Ok(Place::Variable(name.copied(alloc)?)),
-        Loc::Missing => Ok(Place::Nowhere),
+        Loc::Http(url) => Ok(Source::Web(url.copied(alloc)?)),
+        Loc::Https(_) => Ok(Source::Barred),
+        Loc::Env(name) => Ok(Source::Variable(name.copied(alloc)?)),
+        Loc::Missing => Ok(Source::Nowhere),
     }
 }
 

@@ -12,7 +12,7 @@ mod places;
 
 pub use imports::{in_item, why_status, why_text};
 pub use lines::Placed;
-pub use places::{Place, place_of};
+pub use places::{Position, place_of};
 
 #[cfg(test)]
 mod tests;

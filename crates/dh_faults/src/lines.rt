@@ -3,7 +3,7 @@
 ghost use Rattle.std.specs.Prelude.{Some};
 ghost use Rattle.dh_command.specs.PlacedFaults.{placed_line};
 
-use crate::places::Place;
+use crate::places::Position;
 use dh_syntax::Ill;
 use std::fmt;
 
@@ -11,7 +11,7 @@ use std::fmt;
 #[derive(Drop)]
 pub struct Placed<'a> {
     pub ill: &'a Ill,
-    pub place: Place,
+    pub place: Position,
 }
 
 impl<'a> fmt::Display for Placed<'a> {
@@ -19,7 +19,7 @@ impl<'a> fmt::Display for Placed<'a> {
 
     fn fmt<W: fmt::Write>(&self, f: &mut fmt::Formatter<W>) -> fmt::Result {
         let ill = self.ill;
-        let Place { line, column } = self.place;
+        let Position { line, column } = self.place;
         write!(f, "{ill}, line {line}, column {column}")
     }
 }

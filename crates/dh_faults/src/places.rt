@@ -10,7 +10,7 @@ use dh_syntax::Many;
 
 /// A place in a text: its line and its column in characters, both from 1.
 #[derive(Clone, Copy, Debug, PartialEq, Eq)]
-pub struct Place {
+pub struct Position {
     pub line: u32,
     pub column: u32,
 }
@@ -66,13 +66,13 @@ fn column_at(text: &[u8], at: usize) -> u32
 
 /// Where the node stands to which a path leads in a text whose nodes stand in these stretches. The way ends early at a node that
 /// has no such part: a variable or an import.
-pub fn place_of(text: &[u8], nodes: &Many<Span>, path: &[u32]) -> Place
+pub fn place_of(text: &[u8], nodes: &Many<Span>, path: &[u32]) -> Position
     requires short { length text.now ≤ most_bytes }
     ensures line { result.line ≡ line_at text.now (start_of (spans_of nodes.now) path.now) }
     ensures column { result.column ≡ column_at text.now (start_of (spans_of nodes.now) path.now) }
 {
     let at = start_of(nodes.as_slice(), path) as usize;
-    Place {
+    Position {
         line: line_at(text, at),
         column: column_at(text, at),
     }

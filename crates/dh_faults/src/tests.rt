@@ -1,6 +1,6 @@
 //! Places of nodes in texts, with stretches written by hand; lines and statuses of the faults of imports.
 
-use crate::{Place, Placed, in_item, place_of, why_status, why_text};
+use crate::{Placed, Position, in_item, place_of, why_status, why_text};
 use dh_command::Status;
 use dh_imports::Why;
 use dh_places::Span;
@@ -65,7 +65,7 @@ fn lines_tell_rule_path_and_place(rt: HostRuntime) -> Result<(), Fail> {
     path.push(1)?;
     path.push(0)?;
     let ill = Ill { path, rule: 13 };
-    let place = Place {
+    let place = Position {
         line: 2,
         column: 15,
     };

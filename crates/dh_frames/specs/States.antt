@@ -15,8 +15,8 @@ use Rattle.dh_frames.specs.declared.places.Front.{Front}
 use Rattle.dh_frames.specs.declared.places.Front.TheVariants as fronts
 use Rattle.dh_frames.specs.declared.places.Wait.{Wait}
 use Rattle.dh_frames.specs.declared.places.Wait.TheVariants as waits
-use Rattle.dh_frames.specs.declared.places.Place.{Place}
-use Rattle.dh_frames.specs.declared.places.Place.TheVariants as places
+use Rattle.dh_frames.specs.declared.places.Top.{Top}
+use Rattle.dh_frames.specs.declared.places.Top.TheVariants as places
 
 -- the builder, what it builds and what that stands for
 module _ {M Tree Note Lets Chunks Items Alternatives Fields Entry Entries : Type 0} {K : Sorts} (v : Views Tree Note Lets Chunks Items Alternatives Fields Entry Entries K) where
@@ -60,7 +60,7 @@ module _ {M Tree Note Lets Chunks Items Alternatives Fields Entry Entries : Type
   wait_of (waits.TextFront f p) = machine.text_front f (front_of p)
   wait_of (waits.TextPiece f cs) = machine.text_piece f (v.chunks cs)
 
-  abbrev pub state_of : {G : Ghosts M Tree Note Lets Chunks Items Alternatives Fields Entry Entries} → Frames M Tree Note Lets Chunks Items Alternatives Fields Entry Entries G → Place M Tree Note Lets Chunks Items Alternatives Fields Entry Entries → State K
+  abbrev pub state_of : {G : Ghosts M Tree Note Lets Chunks Items Alternatives Fields Entry Entries} → Frames M Tree Note Lets Chunks Items Alternatives Fields Entry Entries G → Top M Tree Note Lets Chunks Items Alternatives Fields Entry Entries → State K
   state_of fs places.Need = need (stack_of v fs)
   state_of fs (places.Have h) = have (stack_of v fs) (held_of h)
   state_of fs (places.Wait w) = wait (wait_of w) (stack_of v fs)

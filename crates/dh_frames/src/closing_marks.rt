@@ -11,7 +11,7 @@ ghost use Rattle.dh_syntax.specs.declared.tokens.TokenKind.TheVariants as kinds;
 use crate::counted::Frames;
 use crate::entries::and_entry;
 use crate::frames::Shut;
-use crate::places::{Held, Place, Wait};
+use crate::places::{Held, Top, Wait};
 use crate::stops::Stop;
 use dh_making::Makes;
 use std::alloc::Global;
@@ -24,7 +24,7 @@ impl<M: Makes> Shut<M> {
         at: u32,
         frames: &Frames<M>,
         operand: M::Tree,
-    ) -> Result<Place<M>, Stop>
+    ) -> Result<Top<M>, Stop>
         ensures ok { IfOk result (λ p.
             closed (M.makes at) (kinds.Mark marks.ParenClose) (shut_of M.views self) (M.views.tree operand) (stack_of M.views frames.now) ≡ state_of M.views frames.now p) }
         ensures err { IfErr result (λ s. s ≡ Refused →
@@ -33,14 +33,14 @@ impl<M: Makes> Shut<M> {
         match self {
             Shut::Bracket => {
                 let operand = M::brackets(alloc, at, operand)?;
-                Ok(Place::Have(Held::Ready(operand)))
+                Ok(Top::Have(Held::Ready(operand)))
             }
             Shut::Domain(is_lambda, word) => {
-                Ok(Place::Wait(Wait::Domained(is_lambda, word, operand)))
+                Ok(Top::Wait(Wait::Domained(is_lambda, word, operand)))
             }
             Shut::Selected(whole) => {
                 let projection = M::project_by(alloc, at, whole, operand)?;
-                Ok(Place::Have(Held::Ready(projection)))
+                Ok(Top::Have(Held::Ready(projection)))
             }
             Shut::Condition | Shut::Branch(_) | Shut::LetType(_, _) => Err(Stop::Refused),
             Shut::LetValue(_, _, _) | Shut::First => Err(Stop::Refused),
@@ -57,17 +57,17 @@ impl<M: Makes> Shut<M> {
         at: u32,
         frames: &Frames<M>,
         operand: M::Tree,
-    ) -> Result<Place<M>, Stop>
+    ) -> Result<Top<M>, Stop>
         ensures ok { IfOk result (λ p.
             closed (M.makes at) (kinds.Mark marks.BracketClose) (shut_of M.views self) (M.views.tree operand) (stack_of M.views frames.now) ≡ state_of M.views frames.now p) }
         ensures err { IfErr result (λ s. s ≡ Refused →
             closed (M.makes at) (kinds.Mark marks.BracketClose) (shut_of M.views self) (M.views.tree operand) (stack_of M.views frames.now) ≡ stopped) }
     {
         match self {
-            Shut::Items(is_late, items) => {
+            Shut::Items(has_leading, items) => {
                 let items = M::add_item(alloc, at, items, operand)?;
-                let list = M::list(alloc, at, is_late, items, false)?;
-                Ok(Place::Have(Held::Ready(list)))
+                let list = M::list(alloc, at, has_leading, items, false)?;
+                Ok(Top::Have(Held::Ready(list)))
             }
             Shut::Bracket | Shut::Domain(_, _) | Shut::Condition => Err(Stop::Refused),
             Shut::Branch(_) | Shut::LetType(_, _) => Err(Stop::Refused),
@@ -84,22 +84,22 @@ impl<M: Makes> Shut<M> {
         at: u32,
         frames: &Frames<M>,
         operand: M::Tree,
-    ) -> Result<Place<M>, Stop>
+    ) -> Result<Top<M>, Stop>
         ensures ok { IfOk result (λ p.
             closed (M.makes at) (kinds.Mark marks.BraceClose) (shut_of M.views self) (M.views.tree operand) (stack_of M.views frames.now) ≡ state_of M.views frames.now p) }
         ensures err { IfErr result (λ s. s ≡ Refused →
             closed (M.makes at) (kinds.Mark marks.BraceClose) (shut_of M.views self) (M.views.tree operand) (stack_of M.views frames.now) ≡ stopped) }
     {
         match self {
-            Shut::FieldType(is_late, fields, key) => {
+            Shut::FieldType(has_leading, fields, key) => {
                 let fields = M::add_field(alloc, at, fields, key, operand)?;
-                let record_type = M::record_type(alloc, at, is_late, fields, false)?;
-                Ok(Place::Have(Held::Ready(record_type)))
+                let record_type = M::record_type(alloc, at, has_leading, fields, false)?;
+                Ok(Top::Have(Held::Ready(record_type)))
             }
-            Shut::EntryValue(is_late, entries, keys) => {
+            Shut::EntryValue(has_leading, entries, keys) => {
                 let entries = and_entry::<M>(alloc, at, entries, keys, operand)?;
-                let record = M::record_of(alloc, at, is_late, entries, false)?;
-                Ok(Place::Have(Held::Ready(record)))
+                let record = M::record_of(alloc, at, has_leading, entries, false)?;
+                Ok(Top::Have(Held::Ready(record)))
             }
             Shut::Bracket | Shut::Domain(_, _) | Shut::Condition => Err(Stop::Refused),
             Shut::Branch(_) | Shut::LetType(_, _) => Err(Stop::Refused),
@@ -116,18 +116,18 @@ impl<M: Makes> Shut<M> {
         at: u32,
         frames: &Frames<M>,
         operand: M::Tree,
-    ) -> Result<Place<M>, Stop>
+    ) -> Result<Top<M>, Stop>
         ensures ok { IfOk result (λ p.
             closed (M.makes at) (kinds.Mark marks.AngleClose) (shut_of M.views self) (M.views.tree operand) (stack_of M.views frames.now) ≡ state_of M.views frames.now p) }
         ensures err { IfErr result (λ s. s ≡ Refused →
             closed (M.makes at) (kinds.Mark marks.AngleClose) (shut_of M.views self) (M.views.tree operand) (stack_of M.views frames.now) ≡ stopped) }
     {
         match self {
-            Shut::AlternativeType(is_late, alternatives, key) => {
+            Shut::AlternativeType(has_leading, alternatives, key) => {
                 let note = M::typed(alloc, at, operand)?;
                 let alternatives = M::add_alternative(alloc, at, alternatives, key, note)?;
-                let union = M::union(alloc, at, is_late, alternatives, false)?;
-                Ok(Place::Have(Held::Ready(union)))
+                let union = M::union(alloc, at, has_leading, alternatives, false)?;
+                Ok(Top::Have(Held::Ready(union)))
             }
             Shut::Bracket | Shut::Domain(_, _) | Shut::Condition => Err(Stop::Refused),
             Shut::Branch(_) | Shut::LetType(_, _) => Err(Stop::Refused),
@@ -144,25 +144,25 @@ impl<M: Makes> Shut<M> {
         at: u32,
         frames: &mut Frames<M>,
         operand: M::Tree,
-    ) -> Result<Place<M>, Stop>
+    ) -> Result<Top<M>, Stop>
         ensures ok { IfOk result (λ p.
             closed (M.makes at) (kinds.Mark marks.Comma) (shut_of M.views self) (M.views.tree operand) (stack_of M.views frames.old) ≡ state_of M.views frames.new p) }
         ensures err { IfErr result (λ s. s ≡ Refused →
             closed (M.makes at) (kinds.Mark marks.Comma) (shut_of M.views self) (M.views.tree operand) (stack_of M.views frames.old) ≡ stopped) }
     {
         match self {
-            Shut::Items(is_late, items) => {
+            Shut::Items(has_leading, items) => {
                 let items = M::add_item(alloc, at, items, operand)?;
-                frames.push_shut(Shut::Items(is_late, Some(items)))?;
-                Ok(Place::Need)
+                frames.push_shut(Shut::Items(has_leading, Some(items)))?;
+                Ok(Top::Need)
             }
-            Shut::FieldType(is_late, fields, key) => {
+            Shut::FieldType(has_leading, fields, key) => {
                 let fields = M::add_field(alloc, at, fields, key, operand)?;
-                Ok(Place::Wait(Wait::FieldComma(is_late, fields)))
+                Ok(Top::Wait(Wait::FieldComma(has_leading, fields)))
             }
-            Shut::EntryValue(is_late, entries, keys) => {
+            Shut::EntryValue(has_leading, entries, keys) => {
                 let entries = and_entry::<M>(alloc, at, entries, keys, operand)?;
-                Ok(Place::Wait(Wait::EntryComma(is_late, entries)))
+                Ok(Top::Wait(Wait::EntryComma(has_leading, entries)))
             }
             Shut::Bracket | Shut::Domain(_, _) | Shut::Condition => Err(Stop::Refused),
             Shut::Branch(_) | Shut::LetType(_, _) => Err(Stop::Refused),
@@ -178,7 +178,7 @@ impl<M: Makes> Shut<M> {
         at: u32,
         frames: &mut Frames<M>,
         operand: M::Tree,
-    ) -> Result<Place<M>, Stop>
+    ) -> Result<Top<M>, Stop>
         ensures ok { IfOk result (λ p.
             closed (M.makes at) (kinds.Mark marks.Equals) (shut_of M.views self) (M.views.tree operand) (stack_of M.views frames.old) ≡ state_of M.views frames.new p) }
         ensures err { IfErr result (λ s. s ≡ Refused →
@@ -188,7 +188,7 @@ impl<M: Makes> Shut<M> {
             Shut::LetType(lets, word) => {
                 let note = M::typed(alloc, at, operand)?;
                 frames.push_shut(Shut::LetValue(lets, word, note))?;
-                Ok(Place::Need)
+                Ok(Top::Need)
             }
             Shut::Bracket | Shut::Domain(_, _) | Shut::Condition => Err(Stop::Refused),
             Shut::Branch(_) | Shut::LetValue(_, _, _) => Err(Stop::Refused),
@@ -205,17 +205,17 @@ impl<M: Makes> Shut<M> {
         at: u32,
         frames: &Frames<M>,
         operand: M::Tree,
-    ) -> Result<Place<M>, Stop>
+    ) -> Result<Top<M>, Stop>
         ensures ok { IfOk result (λ p.
             closed (M.makes at) (kinds.Mark marks.Bar) (shut_of M.views self) (M.views.tree operand) (stack_of M.views frames.now) ≡ state_of M.views frames.now p) }
         ensures err { IfErr result (λ s. s ≡ Refused →
             closed (M.makes at) (kinds.Mark marks.Bar) (shut_of M.views self) (M.views.tree operand) (stack_of M.views frames.now) ≡ stopped) }
     {
         match self {
-            Shut::AlternativeType(is_late, alternatives, key) => {
+            Shut::AlternativeType(has_leading, alternatives, key) => {
                 let note = M::typed(alloc, at, operand)?;
                 let alternatives = M::add_alternative(alloc, at, alternatives, key, note)?;
-                Ok(Place::Wait(Wait::AlternativeBar(is_late, alternatives)))
+                Ok(Top::Wait(Wait::AlternativeBar(has_leading, alternatives)))
             }
             Shut::Bracket | Shut::Domain(_, _) | Shut::Condition => Err(Stop::Refused),
             Shut::Branch(_) | Shut::LetType(_, _) => Err(Stop::Refused),

@@ -10,7 +10,7 @@ ghost use Rattle.dh_syntax.specs.declared.tokens.TokenKind.TheVariants as kinds;
 
 use crate::counted::Frames;
 use crate::frames::{Open, Shut};
-use crate::places::{Front, Place, Wait};
+use crate::places::{Front, Top, Wait};
 use crate::stops::Stop;
 use dh_making::Makes;
 use std::alloc::Global;
@@ -22,7 +22,7 @@ impl<M: Makes> Shut<M> {
         at: u32,
         frames: &mut Frames<M>,
         operand: M::Tree,
-    ) -> Result<Place<M>, Stop>
+    ) -> Result<Top<M>, Stop>
         ensures ok { IfOk result (λ p.
             closed (M.makes at) (kinds.Keyword keywords.Then) (shut_of M.views self) (M.views.tree operand) (stack_of M.views frames.old) ≡ state_of M.views frames.new p) }
         ensures err { IfErr result (λ s. s ≡ Refused →
@@ -31,7 +31,7 @@ impl<M: Makes> Shut<M> {
         match self {
             Shut::Condition => {
                 frames.push_shut(Shut::Branch(operand))?;
-                Ok(Place::Need)
+                Ok(Top::Need)
             }
             Shut::Bracket | Shut::Domain(_, _) | Shut::Branch(_) => Err(Stop::Refused),
             Shut::LetType(_, _) | Shut::LetValue(_, _, _) => Err(Stop::Refused),
@@ -47,7 +47,7 @@ impl<M: Makes> Shut<M> {
         at: u32,
         frames: &mut Frames<M>,
         operand: M::Tree,
-    ) -> Result<Place<M>, Stop>
+    ) -> Result<Top<M>, Stop>
         ensures ok { IfOk result (λ p.
             closed (M.makes at) (kinds.Keyword keywords.Else) (shut_of M.views self) (M.views.tree operand) (stack_of M.views frames.old) ≡ state_of M.views frames.new p) }
         ensures err { IfErr result (λ s. s ≡ Refused →
@@ -56,7 +56,7 @@ impl<M: Makes> Shut<M> {
         match self {
             Shut::Branch(condition) => {
                 frames.push_open(Open::Otherwise(condition, operand))?;
-                Ok(Place::Need)
+                Ok(Top::Need)
             }
             Shut::Bracket | Shut::Domain(_, _) | Shut::Condition => Err(Stop::Refused),
             Shut::LetType(_, _) | Shut::LetValue(_, _, _) => Err(Stop::Refused),
@@ -73,7 +73,7 @@ impl<M: Makes> Shut<M> {
         at: u32,
         frames: &Frames<M>,
         operand: M::Tree,
-    ) -> Result<Place<M>, Stop>
+    ) -> Result<Top<M>, Stop>
         ensures ok { IfOk result (λ p.
             closed (M.makes at) (kinds.Keyword keywords.Let) (shut_of M.views self) (M.views.tree operand) (stack_of M.views frames.now) ≡ state_of M.views frames.now p) }
         ensures err { IfErr result (λ s. s ≡ Refused →
@@ -82,7 +82,7 @@ impl<M: Makes> Shut<M> {
         match self {
             Shut::LetValue(lets, word, note) => {
                 let lets = M::add_let(alloc, at, lets, word, note, operand)?;
-                Ok(Place::Wait(Wait::Letting(Some(lets))))
+                Ok(Top::Wait(Wait::Letting(Some(lets))))
             }
             Shut::Bracket | Shut::Domain(_, _) | Shut::Condition => Err(Stop::Refused),
             Shut::Branch(_) | Shut::LetType(_, _) | Shut::Selected(_) => Err(Stop::Refused),
@@ -99,7 +99,7 @@ impl<M: Makes> Shut<M> {
         at: u32,
         frames: &mut Frames<M>,
         operand: M::Tree,
-    ) -> Result<Place<M>, Stop>
+    ) -> Result<Top<M>, Stop>
         ensures ok { IfOk result (λ p.
             closed (M.makes at) (kinds.Keyword keywords.In) (shut_of M.views self) (M.views.tree operand) (stack_of M.views frames.old) ≡ state_of M.views frames.new p) }
         ensures err { IfErr result (λ s. s ≡ Refused →
@@ -109,7 +109,7 @@ impl<M: Makes> Shut<M> {
             Shut::LetValue(lets, word, note) => {
                 let lets = M::add_let(alloc, at, lets, word, note, operand)?;
                 frames.push_open(Open::Bound(lets))?;
-                Ok(Place::Need)
+                Ok(Top::Need)
             }
             Shut::Bracket | Shut::Domain(_, _) | Shut::Condition => Err(Stop::Refused),
             Shut::Branch(_) | Shut::LetType(_, _) | Shut::Selected(_) => Err(Stop::Refused),
@@ -125,7 +125,7 @@ impl<M: Makes> Shut<M> {
         at: u32,
         frames: &Frames<M>,
         operand: M::Tree,
-    ) -> Result<Place<M>, Stop>
+    ) -> Result<Top<M>, Stop>
         ensures ok { IfOk result (λ p.
             closed (M.makes at) (kinds.InterpolationClose) (shut_of M.views self) (M.views.tree operand) (stack_of M.views frames.now) ≡ state_of M.views frames.now p) }
         ensures err { IfErr result (λ s. s ≡ Refused →
@@ -134,7 +134,7 @@ impl<M: Makes> Shut<M> {
         match self {
             Shut::Chunk(form, chunks) => {
                 let front = Front::Behind(chunks, operand);
-                Ok(Place::Wait(Wait::TextFront(form, front)))
+                Ok(Top::Wait(Wait::TextFront(form, front)))
             }
             Shut::Bracket | Shut::Domain(_, _) | Shut::Condition => Err(Stop::Refused),
             Shut::Branch(_) | Shut::LetType(_, _) => Err(Stop::Refused),

@@ -9,7 +9,7 @@ ghost use Rattle.dh_grammar.specs.Machine.{closed, close_on, stopped};
 
 use crate::counted::Frames;
 use crate::frames::{Frame, Shut};
-use crate::places::Place;
+use crate::places::Top;
 use crate::stops::Stop;
 use dh_making::Makes;
 use std::alloc::Global;
@@ -49,7 +49,7 @@ impl<M: Makes> Shut<M> {
         frames: &mut Frames<M>,
         closing: Closing,
         operand: M::Tree,
-    ) -> Result<Place<M>, Stop>
+    ) -> Result<Top<M>, Stop>
         ensures ok { IfOk result (λ p.
             closed (M.makes at) (closing_kind closing) (shut_of M.views self) (M.views.tree operand) (stack_of M.views frames.old) ≡ state_of M.views frames.new p) }
         ensures err { IfErr result (λ s. s ≡ Refused →
@@ -80,7 +80,7 @@ pub fn close<M: Makes>(
     frames: &mut Frames<M>,
     closing: Closing,
     operand: M::Tree,
-) -> Result<Place<M>, Stop>
+) -> Result<Top<M>, Stop>
     ensures ok { IfOk result (λ p.
         close_on (M.makes at) (closing_kind closing) (stack_of M.views frames.old) (M.views.tree operand) ≡ state_of M.views frames.new p) }
     ensures err { IfErr result (λ s. s ≡ Refused →
@@ -99,14 +99,14 @@ fn end<M: Makes>(
     frames: &Frames<M>,
     closing: Closing,
     operand: M::Tree,
-) -> Result<Place<M>, Stop>
+) -> Result<Top<M>, Stop>
     ensures ok { IfOk result (λ p.
         close_on (M.makes at) (closing_kind closing) [] (M.views.tree operand) ≡ state_of M.views frames.now p) }
     ensures err { IfErr result (λ s. s ≡ Refused →
         close_on (M.makes at) (closing_kind closing) [] (M.views.tree operand) ≡ stopped) }
 {
     match closing {
-        Closing::End => Ok(Place::Done(operand)),
+        Closing::End => Ok(Top::Done(operand)),
         Closing::Paren | Closing::Bracket | Closing::Brace | Closing::Angle => Err(Stop::Refused),
         Closing::Comma | Closing::Equals | Closing::Bar | Closing::Then => Err(Stop::Refused),
         Closing::Else | Closing::Let | Closing::In | Closing::Interpolation => Err(Stop::Refused),

@@ -9,7 +9,7 @@ ghost use Rattle.dh_syntax.specs.Text.Yield.{gap_after};
 
 use crate::counted::Frames;
 use crate::frames::{Frame, Open, Shut};
-use crate::places::{Place, Wait};
+use crate::places::{Top, Wait};
 use dh_making::Makes;
 use dh_syntax::{BinOp, Keyword, Mark, TokenKind};
 
@@ -132,13 +132,13 @@ fn needs_gap(keyword: Keyword) -> bool
 }
 
 /// Whether a gap is needed before a token of this kind.
-pub fn gap_at<M: Makes>(frames: &Frames<M>, place: &Place<M>, kind: &TokenKind) -> bool
+pub fn gap_at<M: Makes>(frames: &Frames<M>, place: &Top<M>, kind: &TokenKind) -> bool
     ensures { result ≡ gap_at (state_of M.views frames.now place.now) kind.now }
 {
     match place {
-        Place::Need => frames.gap(),
-        Place::Have(_) => extend_gap(kind),
-        Place::Wait(wait) => wait.gap(),
-        Place::Done(_) => false,
+        Top::Need => frames.gap(),
+        Top::Have(_) => extend_gap(kind),
+        Top::Wait(wait) => wait.gap(),
+        Top::Done(_) => false,
     }
 }

@@ -93,7 +93,7 @@ pub enum Wait<M: Makes> {
 
 /// What stands above the frames.
 #[derive(Drop)]
-pub enum Place<M: Makes> {
+pub enum Top<M: Makes> {
     /// An operand or an expression begins.
     Need,
     /// An operand has been read.

@@ -9,12 +9,12 @@ use Rattle.dh_imports.specs.Machine.{IsAmong}
 use Rattle.dh_imports.specs.Walk.{Ask}
 use Rattle.dh_syntax.specs.Text.Offsets.{SpellsWith}
 use Rattle.dh_syntax.specs.Text.Printed.{digest_text}
-use Rattle.dh_freeze.specs.declared.places.Place.{Place}
+use Rattle.dh_freeze.specs.declared.places.DigestAt.{DigestAt}
 use Rattle.dh_freeze.specs.Distinct.{AreDistinct}
 use Rattle.dh_freeze.specs.Insertions.{insertions}
 use Rattle.dh_freeze.proofs.ImportOffsets.{offsets_are_distinct}
 
-pub one_place : (out stretched put whole text : List ℕ) (at : ℕ) (p : Place) (left rest : List Place) → left ≡ p ∷ rest →
+pub one_place : (out stretched put whole text : List ℕ) (at : ℕ) (p : DigestAt) (left rest : List DigestAt) → left ≡ p ∷ rest →
     stretched ≡ out ++ take (p.offset - at) (drop at text) → put ≡ stretched ++ digest_text (Some p.digest) →
     out ++ with_digests at text (insertions left) ≡ whole → put ++ with_digests p.offset text (insertions rest) ≡ whole
 one_place out stretched put whole text at p left rest e s d w =
@@ -25,7 +25,7 @@ one_place out stretched put whole text at p left rest e s d w =
     ∙ ap (λ o. out ++ o) (sym (append_assoc t digest others)) ∙ sym (ap (λ l. out ++ with_digests at text (insertions l)) e) ∙ w
 
 -- the text with the digests of its imports
-pub frozen_is : (text bytes offsets : List ℕ) (digests : List (Option Digest)) (places : List Place) (root : Term) (ask : Ask) → SpellsWith text root offsets → digests ≡ digests_behind ask true root
+pub frozen_is : (text bytes offsets : List ℕ) (digests : List (Option Digest)) (places : List DigestAt) (root : Term) (ask : Ask) → SpellsWith text root offsets → digests ≡ digests_behind ask true root
     → ((p : Insertion) → IsAmong p (insertions places) ↔ IsAmong (p.0, Some p.1) (side_by_side offsets digests)) → (AreDistinct offsets → Ascend 0 (insertions places))
     → bytes ≡ with_digests 0 text (insertions places) → IsFrozenText text root ask bytes
 frozen_is text bytes offsets digests places root ask spells same members ascend made = record {

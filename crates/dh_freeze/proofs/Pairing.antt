@@ -9,7 +9,7 @@ use Rattle.std.proofs.lemmas.List.Sums.{sum_by-cons}
 use Rattle.dh_syntax.specs.declared.locations.Digest.{Digest}
 use Rattle.dh_imports.specs.FrozenTexts.{Insertion, Ascend, side_by_side}
 use Rattle.dh_imports.specs.Machine.{IsAmong}
-use Rattle.dh_freeze.specs.declared.places.Place.{Place}
+use Rattle.dh_freeze.specs.declared.places.DigestAt.{DigestAt}
 use Rattle.dh_freeze.specs.Distinct.{times, AreDistinct}
 use Rattle.dh_freeze.specs.Insertions.{insertion_of, insertions}
 use Rattle.dh_freeze.specs.Inside.Pairs.{paired}
@@ -44,23 +44,23 @@ beside_paired (o ∷ os) (None ∷ ds) p (inr m) = beside_paired os ds p m
 beside_paired (o ∷ os) (Some d ∷ ds) p (inl e) = inl (same_pair p o d e)
 beside_paired (o ∷ os) (Some d ∷ ds) p (inr m) = inr (beside_paired os ds p m)
 
-each_among : (ps : List Place) → All (λ (p : Place). IsAmong (insertion_of p) (insertions ps)) ps
-each_among [] = All-nil (λ (p : Place). IsAmong (insertion_of p) [])
+each_among : (ps : List DigestAt) → All (λ (p : DigestAt). IsAmong (insertion_of p) (insertions ps)) ps
+each_among [] = All-nil (λ (p : DigestAt). IsAmong (insertion_of p) [])
 each_among (p ∷ ps) =
-    All-cons (λ (q : Place). IsAmong (insertion_of q) (insertions (p ∷ ps))) p ps (inl refl)
-    (All-weaker (λ (q : Place). IsAmong (insertion_of q) (insertions ps)) (λ (q : Place). IsAmong (insertion_of q) (insertions (p ∷ ps))) (λ q m. inr m) ps (each_among ps))
+    All-cons (λ (q : DigestAt). IsAmong (insertion_of q) (insertions (p ∷ ps))) p ps (inl refl)
+    (All-weaker (λ (q : DigestAt). IsAmong (insertion_of q) (insertions ps)) (λ (q : DigestAt). IsAmong (insertion_of q) (insertions (p ∷ ps))) (λ q m. inr m) ps (each_among ps))
 
-all_hold : (P : Insertion → Type 0) (ps : List Place) (i : Insertion) → All (λ (p : Place). P (insertion_of p)) ps → IsAmong i (insertions ps) → P i
+all_hold : (P : Insertion → Type 0) (ps : List DigestAt) (i : Insertion) → All (λ (p : DigestAt). P (insertion_of p)) ps → IsAmong i (insertions ps) → P i
 all_hold P [] i h m = absurd m
-all_hold P (p ∷ ps) i h (inl e) = subst P e (All-head (λ (p : Place). P (insertion_of p)) p ps h)
-all_hold P (p ∷ ps) i h (inr m) = all_hold P ps i (All-tail (λ (p : Place). P (insertion_of p)) p ps h) m
+all_hold P (p ∷ ps) i h (inl e) = subst P e (All-head (λ (p : DigestAt). P (insertion_of p)) p ps h)
+all_hold P (p ∷ ps) i h (inr m) = all_hold P ps i (All-tail (λ (p : DigestAt). P (insertion_of p)) p ps h) m
 
 -- places in another order have the same members
-pub among_permuted : (ps qs : List Place) (i : Insertion) → IsPermutation ps qs → IsAmong i (insertions qs) → IsAmong i (insertions ps)
+pub among_permuted : (ps qs : List DigestAt) (i : Insertion) → IsPermutation ps qs → IsAmong i (insertions qs) → IsAmong i (insertions ps)
 among_permuted ps qs i h m =
-    all_hold (λ (x : Insertion). IsAmong x (insertions ps)) qs i (All-permutation (λ (p : Place). IsAmong (insertion_of p) (insertions ps)) ps qs h (each_among ps)) m
+    all_hold (λ (x : Insertion). IsAmong x (insertions ps)) qs i (All-permutation (λ (p : DigestAt). IsAmong (insertion_of p) (insertions ps)) ps qs h (each_among ps)) m
 
-pub members : (os : List ℕ) (ds : List (Option Digest)) (ps qs : List Place) → ps ≡ paired os ds → IsPermutation ps qs → (i : Insertion) → IsAmong i (insertions qs) ↔ IsAmong (i.0, Some i.1) (side_by_side os ds)
+pub members : (os : List ℕ) (ds : List (Option Digest)) (ps qs : List DigestAt) → ps ≡ paired os ds → IsPermutation ps qs → (i : Insertion) → IsAmong i (insertions qs) ↔ IsAmong (i.0, Some i.1) (side_by_side os ds)
 members os ds ps qs e h i = (
   (λ m. paired_beside os ds i (subst (λ xs. IsAmong i (insertions xs)) e (among_permuted ps qs i h m))),
   (λ m. among_permuted qs ps i (IsPermutation-sym ps qs h) (subst (λ xs. IsAmong i (insertions xs)) (sym e) (beside_paired os ds i m))),
@@ -68,21 +68,21 @@ members os ds ps qs e h i = (
 
 -- ---- their order
 
-abbrev offset_of : Place → ℕ
+abbrev offset_of : DigestAt → ℕ
 offset_of p = p.offset
 
-abbrev here : ℕ → Place → ℕ
+abbrev here : ℕ → DigestAt → ℕ
 here a p = cond (p.offset == a) 1 0
 
 counted_first : (b : Bool) (n m : ℕ) → n ≡ m → (if b then suc n else n) ≡ cond b 1 0 + m
 counted_first true n m h = omega arith
 counted_first false n m h = omega arith
 
-times-sum : (a : ℕ) (ps : List Place) → times a (map offset_of ps) ≡ sum_by (here a) ps
+times-sum : (a : ℕ) (ps : List DigestAt) → times a (map offset_of ps) ≡ sum_by (here a) ps
 times-sum a [] = refl
 times-sum a (p ∷ ps) = counted_first (p.offset == a) (times a (map offset_of ps)) (sum_by (here a) ps) (times-sum a ps) ∙ sym (sum_by-cons (here a) p ps)
 
-pub times-permuted : (a : ℕ) (ps qs : List Place) → IsPermutation ps qs → times a (map offset_of qs) ≡ times a (map offset_of ps)
+pub times-permuted : (a : ℕ) (ps qs : List DigestAt) → IsPermutation ps qs → times a (map offset_of qs) ≡ times a (map offset_of ps)
 times-permuted a ps qs h = times-sum a qs ∙ sum_by-IsPermutation (here a) ps qs h ∙ sym (times-sum a ps)
 
 more_here : (b : Bool) (n m : ℕ) → n ≤ m → n ≤ (if b then suc m else m)
@@ -103,7 +103,7 @@ times-paired a (o ∷ os) (Some d ∷ ds) = both_here (o == a) (times a (map off
 first_here : (a : ℕ) (n : ℕ) → (if a == a then suc n else n) ≡ suc n
 first_here a n = ap (λ b. if b then suc n else n) (eq-eqb a a refl)
 
-ascends : (from : ℕ) (ps : List Place) → IsNonDecreasingBy offset_of ps → AreDistinct (map offset_of ps) → ((p : Place) (rest : List Place) → ps ≡ p ∷ rest → from ≤ p.offset) → Ascend from (insertions ps)
+ascends : (from : ℕ) (ps : List DigestAt) → IsNonDecreasingBy offset_of ps → AreDistinct (map offset_of ps) → ((p : DigestAt) (rest : List DigestAt) → ps ≡ p ∷ rest → from ≤ p.offset) → Ascend from (insertions ps)
 ascends from [] up once low = tt
 ascends from (p ∷ ps) up once low =
     let rest_up : IsNonDecreasingBy offset_of ps = IsNonDecreasingBy-drop offset_of 1 (p ∷ ps) up in
@@ -113,7 +113,7 @@ ascends from (p ∷ ps) up once low =
     at_most true n h = omega arith
     at_most false n h = h
 
-    apart : (q : Place) (rest : List Place) → ps ≡ q ∷ rest → p.offset ≡ q.offset → ⊥
+    apart : (q : DigestAt) (rest : List DigestAt) → ps ≡ q ∷ rest → p.offset ≡ q.offset → ⊥
     apart q rest e same =
         let h = once p.offset in
         let one : times p.offset (map offset_of (p ∷ ps)) ≡ suc (times p.offset (map offset_of ps)) = first_here p.offset (times p.offset (map offset_of ps)) in
@@ -121,7 +121,7 @@ ascends from (p ∷ ps) up once low =
         ap (λ xs. times p.offset (map offset_of xs)) e ∙ ap (λ b. if b then suc (times p.offset (map offset_of rest)) else times p.offset (map offset_of rest)) (eq-eqb q.offset p.offset (sym same)) in
         omega arith
 
-    next : (q : Place) (rest : List Place) → ps ≡ q ∷ rest → suc p.offset ≤ q.offset
+    next : (q : DigestAt) (rest : List DigestAt) → ps ≡ q ∷ rest → suc p.offset ≤ q.offset
     next q rest e =
         let le : p.offset ≤ q.offset = subst (λ xs. p.offset ≤ offset_of (get_or xs 0 q)) e (up 0 1 q (omega arith) (let l = ap length e in omega arith)) in
         strict (less_or p.offset q.offset) le
@@ -130,6 +130,6 @@ ascends from (p ∷ ps) up once low =
         strict (inl l) le = omega arith
         strict (inr l) le = absurd (apart q rest e (omega arith))
 
-pub sorted_ascends : (os : List ℕ) (ds : List (Option Digest)) (ps qs : List Place) → ps ≡ paired os ds → IsPermutation ps qs → IsNonDecreasingBy (λ (p : Place). p.offset) qs → AreDistinct os → Ascend 0 (insertions qs)
+pub sorted_ascends : (os : List ℕ) (ds : List (Option Digest)) (ps qs : List DigestAt) → ps ≡ paired os ds → IsPermutation ps qs → IsNonDecreasingBy (λ (p : DigestAt). p.offset) qs → AreDistinct os → Ascend 0 (insertions qs)
 sorted_ascends os ds ps qs e h up once =
     ascends 0 qs up (λ a. let t = times-permuted a ps qs h in let s = ap (λ xs. times a (map offset_of xs)) e in let l = times-paired a os ds in let o = once a in omega arith) (λ p rest q. omega arith)

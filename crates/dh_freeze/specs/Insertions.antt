@@ -1,10 +1,10 @@
 -- Places as insertions of digests into a text.
 use Rattle.std.specs.Prelude.{List, map}
 use Rattle.dh_imports.specs.FrozenTexts.{Insertion}
-use Rattle.dh_freeze.specs.declared.places.Place.{Place}
+use Rattle.dh_freeze.specs.declared.places.DigestAt.{DigestAt}
 
-abbrev pub insertion_of : Place → Insertion
+abbrev pub insertion_of : DigestAt → Insertion
 insertion_of p = (p.offset, p.digest)
 
-abbrev pub insertions : List Place → List Insertion
+abbrev pub insertions : List DigestAt → List Insertion
 insertions ps = map insertion_of ps

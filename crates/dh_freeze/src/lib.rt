@@ -13,7 +13,7 @@ mod freezing;
 mod places;
 
 pub use freezing::{freeze, frozen_text};
-pub use places::{Place, Places, places_behind};
+pub use places::{DigestAt, Places, places_behind};
 
 #[cfg(test)]
 mod tests;

@@ -12,13 +12,13 @@ use std::alloc::{AllocError, Global};
 
 /// A digest, and the offset in the text that it is inserted at.
 #[derive(Clone, Copy, Debug, Drop, PartialEq, Eq)]
-pub struct Place {
+pub struct DigestAt {
     pub offset: u32,
     pub digest: Digest,
 }
 
 /// Places by ascending offset.
-pub type Places = Many<Place>;
+pub type Places = Many<DigestAt>;
 
 /// The digests, each at the offset beside it, by ascending offset. An offset without a digest is left out.
 pub fn places_behind(
@@ -39,7 +39,7 @@ fn pairs(
     alloc: Global,
     offsets: &[u32],
     digests: &[Option<Digest>],
-) -> Result<Vec<Place>, AllocError>
+) -> Result<Vec<DigestAt>, AllocError>
     ensures { IfOk result (λ ps. ps.items ≡ paired offsets.now digests.now) }
 {
     let mut places = Vec::new(alloc);
@@ -58,7 +58,7 @@ fn pairs(
 
 // Adds a digest, if there is one, at an offset.
 fn push_place(
-    places: &mut Vec<Place>,
+    places: &mut Vec<DigestAt>,
     offset: u32,
     digest: &Option<Digest>,
 ) -> Result<(), AllocError>
@@ -67,7 +67,7 @@ fn push_place(
     match digest {
         Some(digest) => {
             let digest = *digest;
-            places.push(Place { offset, digest })?;
+            places.push(DigestAt { offset, digest })?;
             Ok(())
         }
         None => Ok(()),

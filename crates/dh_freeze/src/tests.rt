@@ -1,6 +1,6 @@
 //! The texts that freezing makes, written out by hand.
 
-use crate::{Place, Places, freeze, frozen_text};
+use crate::{DigestAt, Places, freeze, frozen_text};
 use dh_syntax::Digest;
 use std::test::Fail;
 
@@ -17,11 +17,11 @@ const F_DIGITS: &str = "afafafafafafafafafafafafafafafafafafafafafafafafafafafaf
 fn inserts_digests_and_nothing_else(rt: HostRuntime) -> Result<(), Fail> {
     let alloc = rt.alloc();
     let text = "[./a , ./b as Text] -- x";
-    let first = Place {
+    let first = DigestAt {
         offset: 4,
         digest: ONES,
     };
-    let second = Place {
+    let second = DigestAt {
         offset: 10,
         digest: FS,
     };

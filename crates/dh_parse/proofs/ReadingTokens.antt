@@ -8,8 +8,8 @@ use Rattle.dh_syntax.specs.declared.tokens.TokenKind.TheVariants as kinds
 use Rattle.dh_frames.specs.States.{state_of}
 use Rattle.dh_frames.specs.declared.counted.Frames.{Frames}
 use Rattle.dh_frames.specs.declared.places.Held.{Held}
-use Rattle.dh_frames.specs.declared.places.Place.{Place}
-use Rattle.dh_frames.specs.declared.places.Place.TheVariants.{Need, Have, Wait, Done}
+use Rattle.dh_frames.specs.declared.places.Top.{Top}
+use Rattle.dh_frames.specs.declared.places.Top.TheVariants.{Need, Have, Wait, Done}
 use Rattle.dh_frames.specs.declared.places.Wait.{Wait as Waiting}
 use Rattle.dh_grammar.proofs.Results.Ending.{end_ends}
 use Rattle.dh_grammar.proofs.Results.ReadingSteps as law
@@ -23,7 +23,7 @@ use Rattle.dh_parse.specs.Inside.Steps.{Reads, Refuses, EndsOn}
 
 -- a state of the program is never stopped
 pub runs : {M Tree Note Lets Chunks Items Alternatives Fields Entry Entries : Type 0} {K : Sorts} (v : Views Tree Note Lets Chunks Items Alternatives Fields Entry Entries K)
-    {G : Ghosts M Tree Note Lets Chunks Items Alternatives Fields Entry Entries} (fs : Frames M Tree Note Lets Chunks Items Alternatives Fields Entry Entries G) (p : Place M Tree Note Lets Chunks Items Alternatives Fields Entry Entries) → runs_still (state_of v fs p) ≡ true
+    {G : Ghosts M Tree Note Lets Chunks Items Alternatives Fields Entry Entries} (fs : Frames M Tree Note Lets Chunks Items Alternatives Fields Entry Entries G) (p : Top M Tree Note Lets Chunks Items Alternatives Fields Entry Entries) → runs_still (state_of v fs p) ≡ true
 runs v fs Need = refl
 runs v fs (Have h) = refl
 runs v fs (Wait w) = refl
@@ -31,7 +31,7 @@ runs v fs (Done x) = refl
 
 -- where the machine has ended, so has the program
 pub awaits : {M Tree Note Lets Chunks Items Alternatives Fields Entry Entries : Type 0} {K : Sorts} (v : Views Tree Note Lets Chunks Items Alternatives Fields Entry Entries K)
-    {G : Ghosts M Tree Note Lets Chunks Items Alternatives Fields Entry Entries} (fs : Frames M Tree Note Lets Chunks Items Alternatives Fields Entry Entries G) (p : Place M Tree Note Lets Chunks Items Alternatives Fields Entry Entries)
+    {G : Ghosts M Tree Note Lets Chunks Items Alternatives Fields Entry Entries} (fs : Frames M Tree Note Lets Chunks Items Alternatives Fields Entry Entries G) (p : Top M Tree Note Lets Chunks Items Alternatives Fields Entry Entries)
     → (p ≡ Need) ⊎ (((h : Held M Tree Note Lets Chunks Items Alternatives Fields Entry Entries) × (p ≡ Have h)) ⊎ ((w : Waiting M Tree Note Lets Chunks Items Alternatives Fields Entry Entries) × (p ≡ Wait w))) → IsEnded (state_of v fs p) → ⊥
 awaits v fs p (inl e) h = subst (λ p. IsEnded (state_of v fs p)) e h
 awaits v fs p (inr (inl (x, e))) h = subst (λ p. IsEnded (state_of v fs p)) e h

@@ -11,14 +11,14 @@ ghost use Rattle.dh_parse.specs.Inside.Steps.{Reads, Refuses};
 ghost use Rattle.dh_syntax.specs.declared.tokens.TokenKind.TheVariants as kinds;
 
 use crate::steps::after;
-use dh_frames::{Frames, Place, Stop, gap_at};
+use dh_frames::{Frames, Stop, Top, gap_at};
 use dh_making::Makes;
 use dh_syntax::{MOST_OPEN, Mark, ParseFault, Token, TokenKind};
 use dh_tokens::Tokens;
 use std::alloc::Global;
 
 /// Whether the token has the white space before it that it needs.
-fn has_gap<M: Makes>(frames: &Frames<M>, place: &Place<M>, kind: &TokenKind, gap: bool) -> bool
+fn has_gap<M: Makes>(frames: &Frames<M>, place: &Top<M>, kind: &TokenKind, gap: bool) -> bool
     ensures { result ≡ (not (gap_at (state_of M.views frames.now place.now) kind.now) || gap) }
 {
     !gap_at(frames, place, kind) || gap
@@ -63,14 +63,14 @@ fn begins_many<M: Makes>(frames: &Frames<M>, kind: &TokenKind) -> bool
 }
 
 /// Whether a token would open too many expressions. It is asked only where an operand begins.
-fn opens_many<M: Makes>(frames: &Frames<M>, place: &Place<M>, kind: &TokenKind) -> bool
+fn opens_many<M: Makes>(frames: &Frames<M>, place: &Top<M>, kind: &TokenKind) -> bool
     ensures { result ≡ opens_many (state_of M.views frames.now place.now) kind.now }
 {
     match place {
-        Place::Need => begins_many(frames, kind),
-        Place::Have(_) => false,
-        Place::Wait(_) => false,
-        Place::Done(_) => false,
+        Top::Need => begins_many(frames, kind),
+        Top::Have(_) => false,
+        Top::Wait(_) => false,
+        Top::Done(_) => false,
     }
 }
 
@@ -79,9 +79,9 @@ fn step<M: Makes>(
     alloc: Global,
     at: u32,
     frames: &mut Frames<M>,
-    place: Place<M>,
+    place: Top<M>,
     token: Token,
-) -> Result<Place<M>, ParseFault>
+) -> Result<Top<M>, ParseFault>
     requires { Within (state_of M.views frames.old place) }
     ensures read { IfOk result (λ p. Reads M.makes at (state_of M.views frames.old place) token (state_of M.views frames.new p)) }
     ensures fault { IfErr result (Refuses M.makes at (state_of M.views frames.old place) token) }
@@ -116,7 +116,7 @@ pub fn read<M: Makes>(alloc: Global, tokens: Tokens) -> Result<M::Tree, ParseFau
     ensures fault { IfErr result (IsFault (reading_at M.makes 0 (need []) tokens)) }
 {
     let mut frames: Frames<M> = Frames::new(alloc);
-    let mut place: Place<M> = Place::Need;
+    let mut place: Top<M> = Top::Need;
     let mut at = 0;
     for token in tokens.into_vec() {
         match step(alloc, at, &mut frames, place, token) {
@@ -126,8 +126,8 @@ pub fn read<M: Makes>(alloc: Global, tokens: Tokens) -> Result<M::Tree, ParseFau
         at += 1;
     }
     match place {
-        Place::Done(operand) => Ok(operand),
+        Top::Done(operand) => Ok(operand),
         // The last token was `End`, behind which nothing is awaited.
-        Place::Need | Place::Have(_) | Place::Wait(_) => unreachable!(),
+        Top::Need | Top::Have(_) | Top::Wait(_) => unreachable!(),
     }
 }

@@ -4,7 +4,7 @@ ghost use Rattle.dh_frames.specs.States.{state_of};
 ghost use Rattle.dh_frames.specs.declared.stops.Stop.TheVariants.{Refused};
 ghost use Rattle.dh_grammar.specs.Machine.{after, stopped};
 
-use dh_frames::{Frames, Place, Stop};
+use dh_frames::{Frames, Stop, Top};
 use dh_making::Makes;
 use dh_reading::{begin, extend};
 use dh_syntax::TokenKind;
@@ -16,16 +16,16 @@ pub fn after<M: Makes>(
     alloc: Global,
     at: u32,
     frames: &mut Frames<M>,
-    place: Place<M>,
+    place: Top<M>,
     kind: TokenKind,
-) -> Result<Place<M>, Stop>
+) -> Result<Top<M>, Stop>
     ensures ok { IfOk result (λ p. after (M.makes at) kind (state_of M.views frames.old place) ≡ state_of M.views frames.new p) }
     ensures err { IfErr result (λ s. s ≡ Refused → after (M.makes at) kind (state_of M.views frames.old place) ≡ stopped) }
 {
     match place {
-        Place::Need => begin(alloc, at, frames, kind),
-        Place::Have(held) => extend(alloc, at, frames, held, kind),
-        Place::Wait(wait) => waited(alloc, at, frames, wait, kind),
-        Place::Done(_) => Err(Stop::Refused),
+        Top::Need => begin(alloc, at, frames, kind),
+        Top::Have(held) => extend(alloc, at, frames, held, kind),
+        Top::Wait(wait) => waited(alloc, at, frames, wait, kind),
+        Top::Done(_) => Err(Stop::Refused),
     }
 }

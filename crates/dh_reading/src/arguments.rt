@@ -8,7 +8,7 @@ ghost use Rattle.dh_grammar.specs.Machine.{shut, first, argue_on, stopped};
 ghost use Rattle.dh_reading.specs.Tops.{awaits_first};
 
 use crate::beginning::begin;
-use dh_frames::{Frame, Frames, Open, Place, Shut, Stop};
+use dh_frames::{Frame, Frames, Open, Shut, Stop, Top};
 use dh_making::Makes;
 use dh_syntax::TokenKind;
 use std::alloc::Global;
@@ -52,7 +52,7 @@ pub fn argue<M: Makes>(
     frames: &mut Frames<M>,
     kind: TokenKind,
     operand: M::Tree,
-) -> Result<Place<M>, Stop>
+) -> Result<Top<M>, Stop>
     ensures ok { IfOk result (λ p.
         argue_on (M.makes at) kind (stack_of M.views frames.old) (M.views.tree operand) ≡ state_of M.views frames.new p) }
     ensures err { IfErr result (λ s. s ≡ Refused →

@@ -9,7 +9,7 @@ ghost use Rattle.dh_syntax.specs.declared.tokens.TokenKind.TheVariants as kinds;
 
 use crate::arguments::argue;
 use crate::operators::{annotate, operate, point, renew, select};
-use dh_frames::{Closing, Frames, Held, Imported, Place, Stop, Wait, close};
+use dh_frames::{Closing, Frames, Held, Imported, Stop, Top, Wait, close};
 use dh_making::Makes;
 use dh_syntax::{Digest, Keyword, Mark, TokenKind};
 use std::alloc::Global;
@@ -21,7 +21,7 @@ pub fn extend<M: Makes>(
     frames: &mut Frames<M>,
     held: Held<M>,
     kind: TokenKind,
-) -> Result<Place<M>, Stop>
+) -> Result<Top<M>, Stop>
     ensures ok { IfOk result (λ p. extend (M.makes at) kind (stack_of M.views frames.old) (held_of M.views held) ≡ state_of M.views frames.new p) }
     ensures err { IfErr result (λ s. s ≡ Refused → extend (M.makes at) kind (stack_of M.views frames.old) (held_of M.views held) ≡ stopped) }
 {
@@ -54,7 +54,7 @@ fn extend_by_mark<M: Makes>(
     frames: &mut Frames<M>,
     held: Held<M>,
     mark: Mark,
-) -> Result<Place<M>, Stop>
+) -> Result<Top<M>, Stop>
     ensures ok { IfOk result (λ p. extend (M.makes at) (kinds.Mark mark) (stack_of M.views frames.old) (held_of M.views held) ≡ state_of M.views frames.new p) }
     ensures err { IfErr result (λ s. s ≡ Refused → extend (M.makes at) (kinds.Mark mark) (stack_of M.views frames.old) (held_of M.views held) ≡ stopped) }
 {
@@ -102,7 +102,7 @@ fn extend_by_keyword<M: Makes>(
     frames: &mut Frames<M>,
     held: Held<M>,
     keyword: Keyword,
-) -> Result<Place<M>, Stop>
+) -> Result<Top<M>, Stop>
     ensures ok { IfOk result (λ p. extend (M.makes at) (kinds.Keyword keyword) (stack_of M.views frames.old) (held_of M.views held) ≡ state_of M.views frames.new p) }
     ensures err { IfErr result (λ s. s ≡ Refused → extend (M.makes at) (kinds.Keyword keyword) (stack_of M.views frames.old) (held_of M.views held) ≡ stopped) }
 {
@@ -133,7 +133,7 @@ fn end_place<M: Makes>(
     frames: &mut Frames<M>,
     held: Held<M>,
     closing: Closing,
-) -> Result<Place<M>, Stop>
+) -> Result<Top<M>, Stop>
     ensures ok { IfOk result (λ p.
         close (M.makes at) (closing_kind closing) (join (M.makes at) 0 (stack_of M.views frames.old) (finish (M.makes at) (held_of M.views held))) ≡ state_of M.views frames.new p) }
     ensures err { IfErr result (λ s. s ≡ Refused →
@@ -151,7 +151,7 @@ fn apply<M: Makes>(
     frames: &mut Frames<M>,
     held: Held<M>,
     kind: TokenKind,
-) -> Result<Place<M>, Stop>
+) -> Result<Top<M>, Stop>
     ensures ok { IfOk result (λ p.
         argue (M.makes at) kind (join (M.makes at) 14 (stack_of M.views frames.old) (finish (M.makes at) (held_of M.views held))) ≡ state_of M.views frames.new p) }
     ensures err { IfErr result (λ s. s ≡ Refused →
@@ -163,12 +163,12 @@ fn apply<M: Makes>(
 }
 
 /// `@` behind a name.
-fn index_on<M: Makes>(at: u32, frames: &Frames<M>, held: Held<M>) -> Result<Place<M>, Stop>
+fn index_on<M: Makes>(at: u32, frames: &Frames<M>, held: Held<M>) -> Result<Top<M>, Stop>
     ensures ok { IfOk result (λ p. index_on (M.makes at) (stack_of M.views frames.now) (held_of M.views held) ≡ state_of M.views frames.now p) }
     ensures err { IfErr result (λ s. s ≡ Refused → index_on (M.makes at) (stack_of M.views frames.now) (held_of M.views held) ≡ stopped) }
 {
     match held {
-        Held::Named(word) => Ok(Place::Wait(Wait::Indexed(word))),
+        Held::Named(word) => Ok(Top::Wait(Wait::Indexed(word))),
         Held::Imported(_) | Held::Ready(_) => Err(Stop::Refused),
     }
 }
@@ -179,7 +179,7 @@ fn digest_on<M: Makes>(
     frames: &Frames<M>,
     held: Held<M>,
     digest: Digest,
-) -> Result<Place<M>, Stop>
+) -> Result<Top<M>, Stop>
     ensures ok { IfOk result (λ p. digest_on (M.makes at) digest (stack_of M.views frames.now) (held_of M.views held) ≡ state_of M.views frames.now p) }
     ensures err { IfErr result (λ s. s ≡ Refused → digest_on (M.makes at) digest (stack_of M.views frames.now) (held_of M.views held) ≡ stopped) }
 {
@@ -189,7 +189,7 @@ fn digest_on<M: Makes>(
                 source,
                 digest: None,
             },
-        ) => Ok(Place::Have(Held::Imported(Imported {
+        ) => Ok(Top::Have(Held::Imported(Imported {
             source,
             digest: Some(digest),
         }))),
@@ -198,12 +198,12 @@ fn digest_on<M: Makes>(
 }
 
 /// `as` behind an import.
-fn mode_on<M: Makes>(at: u32, frames: &Frames<M>, held: Held<M>) -> Result<Place<M>, Stop>
+fn mode_on<M: Makes>(at: u32, frames: &Frames<M>, held: Held<M>) -> Result<Top<M>, Stop>
     ensures ok { IfOk result (λ p. mode_on (M.makes at) (stack_of M.views frames.now) (held_of M.views held) ≡ state_of M.views frames.now p) }
     ensures err { IfErr result (λ s. s ≡ Refused → mode_on (M.makes at) (stack_of M.views frames.now) (held_of M.views held) ≡ stopped) }
 {
     match held {
-        Held::Imported(imported) => Ok(Place::Wait(Wait::Moded(imported))),
+        Held::Imported(imported) => Ok(Top::Wait(Wait::Moded(imported))),
         Held::Named(_) | Held::Ready(_) => Err(Stop::Refused),
     }
 }

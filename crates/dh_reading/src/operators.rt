@@ -7,7 +7,7 @@ ghost use Rattle.dh_grammar.specs.Machine.{«open», update, annotate, have, ope
 ghost use Rattle.dh_making.specs.Words.{keys_of};
 ghost use Rattle.dh_reading.specs.Tops.{updates};
 
-use dh_frames::{Frame, Frames, Open, Place, Stop, Wait};
+use dh_frames::{Frame, Frames, Open, Stop, Top, Wait};
 use dh_making::{Keys, Makes};
 use dh_syntax::BinOp;
 use std::alloc::Global;
@@ -18,7 +18,7 @@ pub fn operate<M: Makes>(
     frames: &mut Frames<M>,
     operator: BinOp,
     operand: M::Tree,
-) -> Result<Place<M>, Stop>
+) -> Result<Top<M>, Stop>
     ensures ok { IfOk result (λ p.
         operate (M.makes at) operator (have (stack_of M.views frames.old) (ready (M.views.tree operand))) ≡ state_of M.views frames.new p) }
     ensures err { IfErr result (λ s. s ≡ Refused →
@@ -26,14 +26,14 @@ pub fn operate<M: Makes>(
 {
     if operator.left_level() <= M::binds(at, &operand) && frames.least() <= operator.level() {
         frames.push(Frame::Open(Open::Left(operand, operator)))?;
-        Ok(Place::Need)
+        Ok(Top::Need)
     } else {
         Err(Stop::Refused)
     }
 }
 
 /// `.`
-pub fn select<M: Makes>(at: u32, frames: &Frames<M>, operand: M::Tree) -> Result<Place<M>, Stop>
+pub fn select<M: Makes>(at: u32, frames: &Frames<M>, operand: M::Tree) -> Result<Top<M>, Stop>
     ensures ok { IfOk result (λ p.
         select (M.makes at) (have (stack_of M.views frames.now) (ready (M.views.tree operand))) ≡ state_of M.views frames.now p) }
     ensures err { IfErr result (λ s. s ≡ Refused →
@@ -42,11 +42,11 @@ pub fn select<M: Makes>(at: u32, frames: &Frames<M>, operand: M::Tree) -> Result
     if M::binds(at, &operand) < 16 {
         return Err(Stop::Refused);
     }
-    Ok(Place::Wait(Wait::Dotted(operand)))
+    Ok(Top::Wait(Wait::Dotted(operand)))
 }
 
 /// `→`
-pub fn point<M: Makes>(at: u32, frames: &mut Frames<M>, operand: M::Tree) -> Result<Place<M>, Stop>
+pub fn point<M: Makes>(at: u32, frames: &mut Frames<M>, operand: M::Tree) -> Result<Top<M>, Stop>
     ensures ok { IfOk result (λ p.
         point (M.makes at) (have (stack_of M.views frames.old) (ready (M.views.tree operand))) ≡ state_of M.views frames.new p) }
     ensures err { IfErr result (λ s. s ≡ Refused →
@@ -56,15 +56,11 @@ pub fn point<M: Makes>(at: u32, frames: &mut Frames<M>, operand: M::Tree) -> Res
         return Err(Stop::Refused);
     }
     frames.push(Frame::Open(Open::Target(operand)))?;
-    Ok(Place::Need)
+    Ok(Top::Need)
 }
 
 /// `:`
-pub fn annotate<M: Makes>(
-    at: u32,
-    frames: &mut Frames<M>,
-    operand: M::Tree,
-) -> Result<Place<M>, Stop>
+pub fn annotate<M: Makes>(at: u32, frames: &mut Frames<M>, operand: M::Tree) -> Result<Top<M>, Stop>
     ensures ok { IfOk result (λ p.
         annotate (M.makes at) (have (stack_of M.views frames.old) (ready (M.views.tree operand))) ≡ state_of M.views frames.new p) }
     ensures err { IfErr result (λ s. s ≡ Refused →
@@ -74,7 +70,7 @@ pub fn annotate<M: Makes>(
         return Err(Stop::Refused);
     }
     frames.push(Frame::Open(Open::Noted(operand)))?;
-    Ok(Place::Need)
+    Ok(Top::Need)
 }
 
 /// Whether the value of an update is awaited.
@@ -118,7 +114,7 @@ pub fn renew<M: Makes>(
     at: u32,
     frames: &mut Frames<M>,
     operand: M::Tree,
-) -> Result<Place<M>, Stop>
+) -> Result<Top<M>, Stop>
     ensures ok { IfOk result (λ p.
         start_update (M.makes at) (stack_of M.views frames.old) (M.views.tree operand) ≡ state_of M.views frames.new p) }
     ensures err { IfErr result (λ s. s ≡ Refused →
@@ -127,14 +123,14 @@ pub fn renew<M: Makes>(
     match take_update(frames) {
         Some((whole, keys)) => {
             let updated = M::updating(alloc, at, whole, keys, operand)?;
-            Ok(Place::Wait(Wait::WithStart(updated)))
+            Ok(Top::Wait(Wait::WithStart(updated)))
         }
         None => start_update(at, frames, operand),
     }
 }
 
 /// `with` behind anything else.
-fn start_update<M: Makes>(at: u32, frames: &Frames<M>, operand: M::Tree) -> Result<Place<M>, Stop>
+fn start_update<M: Makes>(at: u32, frames: &Frames<M>, operand: M::Tree) -> Result<Top<M>, Stop>
     requires { updates (stack_of M.views frames.now) ≡ false }
     ensures ok { IfOk result (λ p.
         start_update (M.makes at) (stack_of M.views frames.now) (M.views.tree operand) ≡ state_of M.views frames.now p) }
@@ -147,5 +143,5 @@ fn start_update<M: Makes>(at: u32, frames: &Frames<M>, operand: M::Tree) -> Resu
     if frames.least() > 0 {
         return Err(Stop::Refused);
     }
-    Ok(Place::Wait(Wait::WithStart(operand)))
+    Ok(Top::Wait(Wait::WithStart(operand)))
 }

@@ -8,7 +8,7 @@ use dh_shared::{Counted, Seat};
 
 /// A desk with a seat, and whether the worker there ended well.
 #[derive(Drop)]
-pub(crate) struct Place<D, N: Counted> {
+pub(crate) struct Seated<D, N: Counted> {
     pub(crate) desk: D,
     pub(crate) seat: Seat<N>,
     pub(crate) done: bool,
@@ -63,7 +63,7 @@ fn take_seat<N: Counted>(seats: &mut Vec<Seat<N>>) -> Option<Seat<N>>
 pub(crate) fn seat_desks<D: Drop, N: Counted>(
     desks: &mut Vec<D>,
     seats: &mut Vec<Seat<N>>,
-    places: &mut Vec<Place<D, N>>,
+    places: &mut Vec<Seated<D, N>>,
 )
     requires desks { vec_len seats.old ≤ vec_len desks.old }
     requires room { vec_len places.old + vec_len seats.old ≤ vec_capacity places.old }
@@ -82,7 +82,7 @@ pub(crate) fn seat_desks<D: Drop, N: Counted>(
         let desk = take_first(desks);
         put(
             places,
-            Place {
+            Seated {
                 desk,
                 seat,
                 done: false,
@@ -96,7 +96,7 @@ pub(crate) fn seat_desks<D: Drop, N: Counted>(
 pub(crate) fn stand_again<D: Drop, N: Counted>(
     desks: &mut Vec<D>,
     seats: &mut Vec<Seat<N>>,
-    places: Vec<Place<D, N>>,
+    places: Vec<Seated<D, N>>,
 )
     requires room { vec_len desks.old + vec_len places ≤ vec_capacity desks.old }
     requires room_seats { vec_len seats.old + vec_len places ≤ vec_capacity seats.old }
@@ -107,7 +107,7 @@ pub(crate) fn stand_again<D: Drop, N: Counted>(
 {
     let mut places = places;
     while let Some(place) = places.pop() {
-        let Place {
+        let Seated {
             desk,
             seat,
             done: _,
@@ -118,7 +118,7 @@ pub(crate) fn stand_again<D: Drop, N: Counted>(
 }
 
 /// Whether all workers ended well.
-pub(crate) fn all_done<D, N: Counted>(places: &Vec<Place<D, N>>) -> bool
+pub(crate) fn all_done<D, N: Counted>(places: &Vec<Seated<D, N>>) -> bool
     ensures done { result ≡ true → All (λ p. p.done ≡ true) places.now.items }
     ensures undone { result ≡ false → Any (λ p. p.done ≡ false) places.now.items }
 {

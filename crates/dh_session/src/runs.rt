@@ -14,7 +14,7 @@ ghost use Rattle.dh_session.specs.Ended.{Ends, NoneFell};
 ghost use Rattle.dh_session.specs.Inside.{Goes};
 
 use crate::answers::{Answered, SessionFault, answer_of};
-use crate::places::{Place, all_done, seat_desks, stand_again};
+use crate::places::{Seated, all_done, seat_desks, stand_again};
 use crate::workers::worker;
 use dh_ports::{Desk, Gate, World};
 use dh_shared::{Blanks, Counted, Rooted, Seat, SharedTable};
@@ -49,7 +49,7 @@ fn work_at<T: Wait, W: World, D: Desk<W>, G: Gate, Q: Rooted, N: Counted>(
     alloc: Global,
     shared: &SharedTable<W, Q, N>,
     shelf: &Shelf<W>,
-    place: &mut Place<D, N>,
+    place: &mut Seated<D, N>,
     gate: &G,
 )
     ensures { Goes place.new.done (D.asked place.old.desk) (D.asked place.new.desk) (D.faults place.old.desk) (D.faults place.new.desk) (D.filed place.old.desk) (D.filed place.new.desk) place.old.seat.shares place.new.seat.shares }
@@ -84,7 +84,7 @@ fn work_all<
     alloc: Global,
     shared: &SharedTable<W, Q, N>,
     shelf: &Shelf<W>,
-    places: &mut [Place<D, N>],
+    places: &mut [Seated<D, N>],
     workers: u32,
     gate: &G,
 )
@@ -111,7 +111,7 @@ fn work_places<
     alloc: Global,
     shared: &SharedTable<W, Q, N>,
     shelf: &Shelf<W>,
-    places: &mut Vec<Place<D, N>>,
+    places: &mut Vec<Seated<D, N>>,
     workers: u32,
     gate: &G,
 )

@@ -10,7 +10,7 @@ ghost use Rattle.dh_store.specs.Cells.{code_core, code_row, AreCoded};
 ghost use Rattle.dh_types.specs.Closed.{IsClosedBelow};
 ghost use Rattle.dh_types.specs.Inside.Comparing.{TellsMentioned};
 
-use crate::changes::{Place, inner};
+use crate::changes::{Pending, inner};
 use crate::memos::Memo;
 use crate::nodes::{Seen, form_of};
 use dh_store::{CodeId, CodeKid, Codes};
@@ -18,9 +18,9 @@ use std::alloc::{AllocError, Global};
 
 /// Puts a part above its node, which is put back first if it was not yet; now it waits.
 fn put_off(
-    todo: &mut Vec<Place>,
+    todo: &mut Vec<Pending>,
     waits: bool,
-    place: Place,
+    place: Pending,
     id: CodeId,
     level: u32,
 ) -> Result<bool, AllocError>
@@ -29,7 +29,7 @@ fn put_off(
     if !waits {
         todo.push(place)?;
     }
-    todo.push(Place { id, level })?;
+    todo.push(Pending { id, level })?;
     Ok(true)
 }
 
@@ -37,8 +37,8 @@ fn put_off(
 /// of which it is not known.
 fn mentioned_in(
     memo: &Memo<bool>,
-    todo: &mut Vec<Place>,
-    place: Place,
+    todo: &mut Vec<Pending>,
+    place: Pending,
     kids: &[CodeKid],
 ) -> Result<Option<bool>, AllocError>
     ensures { IfOk result (λ o. (f : ℕ → Core) → TellsMentioned f memo.now → IfSome o (λ v. v ≡ mentions_row place.level (code_row f kids.now))) }
@@ -61,8 +61,8 @@ fn mentioned_in(
 fn look(
     codes: &Codes,
     memo: &Memo<bool>,
-    todo: &mut Vec<Place>,
-    place: Place,
+    todo: &mut Vec<Pending>,
+    place: Pending,
 ) -> Result<Option<bool>, AllocError>
     requires coded { AreCoded codes.now }
     requires tells { TellsMentioned (code_core codes.now) memo.now }
@@ -79,8 +79,8 @@ fn look(
 fn go_on(
     codes: &Codes,
     memo: &mut Memo<bool>,
-    todo: &mut Vec<Place>,
-    place: Place,
+    todo: &mut Vec<Pending>,
+    place: Pending,
 ) -> Result<(), AllocError>
     requires coded { AreCoded codes.now }
     requires tells { TellsMentioned (code_core codes.now) memo.old }
@@ -102,7 +102,7 @@ fn mentions(alloc: Global, codes: &Codes, id: CodeId) -> Result<bool, AllocError
 {
     let mut memo = Memo::new(alloc);
     let mut todo = Vec::new(alloc);
-    todo.push(Place { id, level: 0 })?;
+    todo.push(Pending { id, level: 0 })?;
     'places: for _ in 0..u64::MAX {
         if let Some(mentions) = memo.get(id, 0) {
             return Ok(mentions);

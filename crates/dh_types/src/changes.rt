@@ -255,7 +255,7 @@ fn settle(
 
 /// A code and how many binders stand above it.
 #[derive(Clone, Copy)]
-pub(crate) struct Place {
+pub(crate) struct Pending {
     pub(crate) id: CodeId,
     pub(crate) level: u32,
 }
@@ -264,8 +264,8 @@ pub(crate) struct Place {
 fn wait(
     codes: &Codes,
     memo: &Memo<CodeId>,
-    todo: &mut Vec<Place>,
-    place: Place,
+    todo: &mut Vec<Pending>,
+    place: Pending,
 ) -> Result<bool, AllocError> {
     let Some(Code::Node(_, kids)) = codes.get(place.id) else {
         return Ok(false);
@@ -280,7 +280,7 @@ fn wait(
                 todo.push(place)?;
                 waits = true;
             }
-            todo.push(Place {
+            todo.push(Pending {
                 id: kid.code,
                 level,
             })?;
@@ -294,9 +294,9 @@ fn go_on(
     alloc: Global,
     codes: &mut Codes,
     memo: &mut Memo<CodeId>,
-    todo: &mut Vec<Place>,
+    todo: &mut Vec<Pending>,
     change: Change,
-    place: Place,
+    place: Pending,
 ) -> Result<(), AllocError>
     requires coded { AreCoded codes.old }
     requires there { IsChangeBelow (count codes.old) change }
@@ -338,7 +338,7 @@ pub(crate) fn changed(
 {
     let mut memo = Memo::new(alloc);
     let mut todo = Vec::new(alloc);
-    todo.push(Place { id, level: 0 })?;
+    todo.push(Pending { id, level: 0 })?;
     'places: for _ in 0..u64::MAX {
         match todo.pop() {
             Some(place) => go_on(alloc, codes, &mut memo, &mut todo, change, place)?,

@@ -9,7 +9,7 @@ ghost use Rattle.dh_making.specs.Words.{key_of, keys_of};
 ghost use Rattle.dh_waits.specs.Inside.Nexts.{next, unless_some};
 
 use crate::tokens::is_mark;
-use dh_frames::{Frames, Held, Place, Shut, Stop, Wait};
+use dh_frames::{Frames, Held, Shut, Stop, Top, Wait};
 use dh_making::{EntryKey, Keys, Makes};
 use dh_syntax::{Mark, TokenKind};
 use std::alloc::Global;
@@ -19,23 +19,23 @@ pub(crate) fn entry_comma<M: Makes>(
     alloc: Global,
     at: u32,
     frames: &Frames<M>,
-    is_late: bool,
+    has_leading: bool,
     entries: M::Entries,
     kind: TokenKind,
-) -> Result<Place<M>, Stop>
+) -> Result<Top<M>, Stop>
     ensures ok { IfOk result (λ p.
-        next (M.makes at) (machine.entry_comma is_late (M.views.entries entries)) kind (stack_of M.views frames.now) ≡ state_of M.views frames.now p) }
+        next (M.makes at) (machine.entry_comma has_leading (M.views.entries entries)) kind (stack_of M.views frames.now) ≡ state_of M.views frames.now p) }
     ensures err { IfErr result (λ s. s ≡ Refused →
-        next (M.makes at) (machine.entry_comma is_late (M.views.entries entries)) kind (stack_of M.views frames.now) ≡ stopped) }
+        next (M.makes at) (machine.entry_comma has_leading (M.views.entries entries)) kind (stack_of M.views frames.now) ≡ stopped) }
 {
     if is_mark(&kind, Mark::BraceClose) {
-        let record = M::record_of(alloc, at, is_late, entries, true)?;
-        Ok(Place::Have(Held::Ready(record)))
+        let record = M::record_of(alloc, at, has_leading, entries, true)?;
+        Ok(Top::Have(Held::Ready(record)))
     } else {
         match EntryKey::of_token(kind) {
             Some(key) => {
                 let keys = Keys::one(alloc, key);
-                Ok(Place::Wait(Wait::EntryKeys(is_late, Some(entries), keys)))
+                Ok(Top::Wait(Wait::EntryKeys(has_leading, Some(entries), keys)))
             }
             None => Err(Stop::Refused),
         }
@@ -47,28 +47,28 @@ pub(crate) fn entry_keys<M: Makes>(
     alloc: Global,
     at: u32,
     frames: &mut Frames<M>,
-    is_late: bool,
+    has_leading: bool,
     entries: Option<M::Entries>,
     keys: Keys,
     kind: &TokenKind,
-) -> Result<Place<M>, Stop>
+) -> Result<Top<M>, Stop>
     ensures ok { IfOk result (λ p.
-        next (M.makes at) (machine.entry_keys is_late (option_map M.views.entries entries) (keys_of keys)) kind.now (stack_of M.views frames.old) ≡ state_of M.views frames.new p) }
+        next (M.makes at) (machine.entry_keys has_leading (option_map M.views.entries entries) (keys_of keys)) kind.now (stack_of M.views frames.old) ≡ state_of M.views frames.new p) }
     ensures err { IfErr result (λ s. s ≡ Refused →
-        next (M.makes at) (machine.entry_keys is_late (option_map M.views.entries entries) (keys_of keys)) kind.now (stack_of M.views frames.old) ≡ stopped) }
+        next (M.makes at) (machine.entry_keys has_leading (option_map M.views.entries entries) (keys_of keys)) kind.now (stack_of M.views frames.old) ≡ stopped) }
 {
     if is_mark(kind, Mark::Colon) {
-        first_field::<M>(frames, is_late, entries, keys)
+        first_field::<M>(frames, has_leading, entries, keys)
     } else if is_mark(kind, Mark::Dot) {
-        Ok(Place::Wait(Wait::EntryDot(is_late, entries, keys)))
+        Ok(Top::Wait(Wait::EntryDot(has_leading, entries, keys)))
     } else if is_mark(kind, Mark::Equals) {
-        frames.push_shut(Shut::EntryValue(is_late, entries, keys))?;
-        Ok(Place::Need)
+        frames.push_shut(Shut::EntryValue(has_leading, entries, keys))?;
+        Ok(Top::Need)
     } else if is_mark(kind, Mark::Comma) {
         match keys.into_only() {
             Some(key) => {
                 let entries = and_lone::<M>(alloc, at, entries, key)?;
-                Ok(Place::Wait(Wait::EntryComma(is_late, entries)))
+                Ok(Top::Wait(Wait::EntryComma(has_leading, entries)))
             }
             None => Err(Stop::Refused),
         }
@@ -76,8 +76,8 @@ pub(crate) fn entry_keys<M: Makes>(
         match keys.into_only() {
             Some(key) => {
                 let entries = and_lone::<M>(alloc, at, entries, key)?;
-                let record = M::record_of(alloc, at, is_late, entries, false)?;
-                Ok(Place::Have(Held::Ready(record)))
+                let record = M::record_of(alloc, at, has_leading, entries, false)?;
+                Ok(Top::Have(Held::Ready(record)))
             }
             None => Err(Stop::Refused),
         }
@@ -90,21 +90,21 @@ pub(crate) fn entry_keys<M: Makes>(
 pub(crate) fn entry_dot<M: Makes>(
     at: u32,
     frames: &Frames<M>,
-    is_late: bool,
+    has_leading: bool,
     entries: Option<M::Entries>,
     keys: Keys,
     kind: TokenKind,
-) -> Result<Place<M>, Stop>
+) -> Result<Top<M>, Stop>
     ensures ok { IfOk result (λ p.
-        next (M.makes at) (machine.entry_dot is_late (option_map M.views.entries entries) (keys_of keys)) kind (stack_of M.views frames.now) ≡ state_of M.views frames.now p) }
+        next (M.makes at) (machine.entry_dot has_leading (option_map M.views.entries entries) (keys_of keys)) kind (stack_of M.views frames.now) ≡ state_of M.views frames.now p) }
     ensures err { IfErr result (λ s. s ≡ Refused →
-        next (M.makes at) (machine.entry_dot is_late (option_map M.views.entries entries) (keys_of keys)) kind (stack_of M.views frames.now) ≡ stopped) }
+        next (M.makes at) (machine.entry_dot has_leading (option_map M.views.entries entries) (keys_of keys)) kind (stack_of M.views frames.now) ≡ stopped) }
 {
     let mut keys = keys;
     match EntryKey::of_token(kind) {
         Some(key) => {
             keys.push(key)?;
-            Ok(Place::Wait(Wait::EntryKeys(is_late, entries, keys)))
+            Ok(Top::Wait(Wait::EntryKeys(has_leading, entries, keys)))
         }
         None => Err(Stop::Refused),
     }
@@ -113,21 +113,21 @@ pub(crate) fn entry_dot<M: Makes>(
 /// The keys of an entry that turn out to be the first key of a record type.
 fn first_field<M: Makes>(
     frames: &mut Frames<M>,
-    is_late: bool,
+    has_leading: bool,
     entries: Option<M::Entries>,
     keys: Keys,
-) -> Result<Place<M>, Stop>
+) -> Result<Top<M>, Stop>
     ensures ok { IfOk result (λ p.
-        unless_some (option_map M.views.entries entries) (with_key (λ k. need (shut (field_type is_late None k) ∷ stack_of M.views frames.old)) (one_of (keys_of keys))) ≡ state_of M.views frames.new p) }
+        unless_some (option_map M.views.entries entries) (with_key (λ k. need (shut (field_type has_leading None k) ∷ stack_of M.views frames.old)) (one_of (keys_of keys))) ≡ state_of M.views frames.new p) }
     ensures err { IfErr result (λ s. s ≡ Refused →
-        unless_some (option_map M.views.entries entries) (with_key (λ k. need (shut (field_type is_late None k) ∷ stack_of M.views frames.old)) (one_of (keys_of keys))) ≡ stopped) }
+        unless_some (option_map M.views.entries entries) (with_key (λ k. need (shut (field_type has_leading None k) ∷ stack_of M.views frames.old)) (one_of (keys_of keys))) ≡ stopped) }
 {
     match entries {
         Some(_) => Err(Stop::Refused),
         None => match keys.into_only() {
             Some(key) => {
-                frames.push_shut(Shut::FieldType(is_late, None, key))?;
-                Ok(Place::Need)
+                frames.push_shut(Shut::FieldType(has_leading, None, key))?;
+                Ok(Top::Need)
             }
             None => Err(Stop::Refused),
         },

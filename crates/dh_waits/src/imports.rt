@@ -9,7 +9,7 @@ ghost use Rattle.dh_making.specs.Words.{word_of, source_of};
 ghost use Rattle.dh_waits.specs.Inside.Nexts.{next};
 
 use crate::tokens::{mode_of, natural_of};
-use dh_frames::{Frames, Held, Imported, Place, Stop};
+use dh_frames::{Frames, Held, Imported, Stop, Top};
 use dh_making::{Makes, Word};
 use dh_syntax::TokenKind;
 use std::alloc::Global;
@@ -21,7 +21,7 @@ pub(crate) fn indexed<M: Makes>(
     frames: &Frames<M>,
     word: Word,
     kind: &TokenKind,
-) -> Result<Place<M>, Stop>
+) -> Result<Top<M>, Stop>
     ensures ok { IfOk result (λ p.
         next (M.makes at) (machine.indexed (word_of word)) kind.now (stack_of M.views frames.now) ≡ state_of M.views frames.now p) }
     ensures err { IfErr result (λ s. s ≡ Refused →
@@ -31,7 +31,7 @@ pub(crate) fn indexed<M: Makes>(
         Some(index) => match u32::try_from(index) {
             Ok(index) => {
                 let variable = M::variable(alloc, at, word, Some(index))?;
-                Ok(Place::Have(Held::Ready(variable)))
+                Ok(Top::Have(Held::Ready(variable)))
             }
             // No index that a token has is that wide.
             Err(_) => Err(Stop::Memory),
@@ -47,7 +47,7 @@ pub(crate) fn moded<M: Makes>(
     frames: &Frames<M>,
     import: Imported,
     kind: &TokenKind,
-) -> Result<Place<M>, Stop>
+) -> Result<Top<M>, Stop>
     ensures ok { IfOk result (λ p.
         next (M.makes at) (machine.moded (source_of import.source) import.digest) kind.now (stack_of M.views frames.now) ≡ state_of M.views frames.now p) }
     ensures err { IfErr result (λ s. s ≡ Refused →
@@ -57,7 +57,7 @@ pub(crate) fn moded<M: Makes>(
         Some(mode) => {
             let Imported { source, digest } = import;
             let operand = M::import(alloc, at, source, digest, mode)?;
-            Ok(Place::Have(Held::Ready(operand)))
+            Ok(Top::Have(Held::Ready(operand)))
         }
         None => Err(Stop::Refused),
     }

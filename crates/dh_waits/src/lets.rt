@@ -9,7 +9,7 @@ ghost use Rattle.dh_making.specs.Words.{word_of};
 ghost use Rattle.dh_waits.specs.Inside.Nexts.{next};
 
 use crate::tokens::is_mark;
-use dh_frames::{Frames, Place, Shut, Stop, Wait};
+use dh_frames::{Frames, Shut, Stop, Top, Wait};
 use dh_making::{Makes, Word};
 use dh_syntax::{Mark, TokenKind};
 
@@ -19,14 +19,14 @@ pub(crate) fn letting<M: Makes>(
     frames: &Frames<M>,
     lets: Option<M::Lets>,
     kind: TokenKind,
-) -> Result<Place<M>, Stop>
+) -> Result<Top<M>, Stop>
     ensures ok { IfOk result (λ p.
         next (M.makes at) (machine.letting (option_map M.views.lets lets)) kind (stack_of M.views frames.now) ≡ state_of M.views frames.now p) }
     ensures err { IfErr result (λ s. s ≡ Refused →
         next (M.makes at) (machine.letting (option_map M.views.lets lets)) kind (stack_of M.views frames.now) ≡ stopped) }
 {
     match Word::of_token(kind) {
-        Some(word) => Ok(Place::Wait(Wait::Lettered(lets, word))),
+        Some(word) => Ok(Top::Wait(Wait::Lettered(lets, word))),
         None => Err(Stop::Refused),
     }
 }
@@ -38,7 +38,7 @@ pub(crate) fn lettered<M: Makes>(
     lets: Option<M::Lets>,
     word: Word,
     kind: &TokenKind,
-) -> Result<Place<M>, Stop>
+) -> Result<Top<M>, Stop>
     ensures ok { IfOk result (λ p.
         next (M.makes at) (machine.lettered (option_map M.views.lets lets) (word_of word)) kind.now (stack_of M.views frames.old) ≡ state_of M.views frames.new p) }
     ensures err { IfErr result (λ s. s ≡ Refused →
@@ -46,10 +46,10 @@ pub(crate) fn lettered<M: Makes>(
 {
     if is_mark(kind, Mark::Colon) {
         frames.push_shut(Shut::LetType(lets, word))?;
-        Ok(Place::Need)
+        Ok(Top::Need)
     } else if is_mark(kind, Mark::Equals) {
         frames.push_shut(Shut::LetValue(lets, word, M::untyped(at)))?;
-        Ok(Place::Need)
+        Ok(Top::Need)
     } else {
         Err(Stop::Refused)
     }

@@ -9,7 +9,7 @@ ghost use Rattle.dh_making.specs.Projections.{projection_of};
 ghost use Rattle.dh_waits.specs.Inside.Nexts.{next};
 
 use crate::tokens::is_mark;
-use dh_frames::{Frames, Held, Place, Shut, Stop, Wait};
+use dh_frames::{Frames, Held, Shut, Stop, Top, Wait};
 use dh_making::{EntryKey, Makes, Projection};
 use dh_syntax::{Mark, TokenKind};
 use std::alloc::Global;
@@ -21,22 +21,22 @@ pub(crate) fn dotted<M: Makes>(
     frames: &mut Frames<M>,
     whole: M::Tree,
     kind: TokenKind,
-) -> Result<Place<M>, Stop>
+) -> Result<Top<M>, Stop>
     ensures ok { IfOk result (λ p.
         next (M.makes at) (machine.dotted (M.views.tree whole)) kind (stack_of M.views frames.old) ≡ state_of M.views frames.new p) }
     ensures err { IfErr result (λ s. s ≡ Refused →
         next (M.makes at) (machine.dotted (M.views.tree whole)) kind (stack_of M.views frames.old) ≡ stopped) }
 {
     if is_mark(&kind, Mark::BraceOpen) {
-        Ok(Place::Wait(Wait::Projecting(whole, false)))
+        Ok(Top::Wait(Wait::Projecting(whole, false)))
     } else if is_mark(&kind, Mark::ParenOpen) {
         frames.push_shut(Shut::Selected(whole))?;
-        Ok(Place::Need)
+        Ok(Top::Need)
     } else {
         match EntryKey::of_token(kind) {
             Some(key) => {
                 let field = M::field(alloc, at, whole, key)?;
-                Ok(Place::Have(Held::Ready(field)))
+                Ok(Top::Have(Held::Ready(field)))
             }
             None => Err(Stop::Refused),
         }
@@ -49,28 +49,28 @@ pub(crate) fn projecting<M: Makes>(
     at: u32,
     frames: &Frames<M>,
     whole: M::Tree,
-    is_late: bool,
+    has_leading: bool,
     kind: TokenKind,
-) -> Result<Place<M>, Stop>
+) -> Result<Top<M>, Stop>
     ensures ok { IfOk result (λ p.
-        next (M.makes at) (machine.projecting (M.views.tree whole) is_late) kind (stack_of M.views frames.now) ≡ state_of M.views frames.now p) }
+        next (M.makes at) (machine.projecting (M.views.tree whole) has_leading) kind (stack_of M.views frames.now) ≡ state_of M.views frames.now p) }
     ensures err { IfErr result (λ s. s ≡ Refused →
-        next (M.makes at) (machine.projecting (M.views.tree whole) is_late) kind (stack_of M.views frames.now) ≡ stopped) }
+        next (M.makes at) (machine.projecting (M.views.tree whole) has_leading) kind (stack_of M.views frames.now) ≡ stopped) }
 {
     if is_mark(&kind, Mark::Comma) {
-        if is_late {
+        if has_leading {
             Err(Stop::Refused)
         } else {
-            Ok(Place::Wait(Wait::Projecting(whole, true)))
+            Ok(Top::Wait(Wait::Projecting(whole, true)))
         }
     } else if is_mark(&kind, Mark::BraceClose) {
-        let projection = M::project_none(alloc, at, whole, is_late)?;
-        Ok(Place::Have(Held::Ready(projection)))
+        let projection = M::project_none(alloc, at, whole, has_leading)?;
+        Ok(Top::Have(Held::Ready(projection)))
     } else {
         match EntryKey::of_token(kind) {
             Some(key) => {
                 let labels = Projection::one(alloc, key)?;
-                Ok(Place::Wait(Wait::Projected(whole, is_late, labels)))
+                Ok(Top::Wait(Wait::Projected(whole, has_leading, labels)))
             }
             None => Err(Stop::Refused),
         }
@@ -83,20 +83,20 @@ pub(crate) fn projected<M: Makes>(
     at: u32,
     frames: &Frames<M>,
     whole: M::Tree,
-    is_late: bool,
+    has_leading: bool,
     labels: Projection,
     kind: &TokenKind,
-) -> Result<Place<M>, Stop>
+) -> Result<Top<M>, Stop>
     ensures ok { IfOk result (λ p.
-        next (M.makes at) (machine.projected (M.views.tree whole) is_late (projection_of labels)) kind.now (stack_of M.views frames.now) ≡ state_of M.views frames.now p) }
+        next (M.makes at) (machine.projected (M.views.tree whole) has_leading (projection_of labels)) kind.now (stack_of M.views frames.now) ≡ state_of M.views frames.now p) }
     ensures err { IfErr result (λ s. s ≡ Refused →
-        next (M.makes at) (machine.projected (M.views.tree whole) is_late (projection_of labels)) kind.now (stack_of M.views frames.now) ≡ stopped) }
+        next (M.makes at) (machine.projected (M.views.tree whole) has_leading (projection_of labels)) kind.now (stack_of M.views frames.now) ≡ stopped) }
 {
     if is_mark(kind, Mark::Comma) {
-        Ok(Place::Wait(Wait::ProjectedComma(whole, is_late, labels)))
+        Ok(Top::Wait(Wait::ProjectedComma(whole, has_leading, labels)))
     } else if is_mark(kind, Mark::BraceClose) {
-        let projection = M::project(alloc, at, whole, is_late, labels, false)?;
-        Ok(Place::Have(Held::Ready(projection)))
+        let projection = M::project(alloc, at, whole, has_leading, labels, false)?;
+        Ok(Top::Have(Held::Ready(projection)))
     } else {
         Err(Stop::Refused)
     }
@@ -108,18 +108,18 @@ pub(crate) fn projected_comma<M: Makes>(
     at: u32,
     frames: &Frames<M>,
     whole: M::Tree,
-    is_late: bool,
+    has_leading: bool,
     labels: Projection,
     kind: TokenKind,
-) -> Result<Place<M>, Stop>
+) -> Result<Top<M>, Stop>
     ensures ok { IfOk result (λ p.
-        next (M.makes at) (machine.projected_comma (M.views.tree whole) is_late (projection_of labels)) kind (stack_of M.views frames.now) ≡ state_of M.views frames.now p) }
+        next (M.makes at) (machine.projected_comma (M.views.tree whole) has_leading (projection_of labels)) kind (stack_of M.views frames.now) ≡ state_of M.views frames.now p) }
     ensures err { IfErr result (λ s. s ≡ Refused →
-        next (M.makes at) (machine.projected_comma (M.views.tree whole) is_late (projection_of labels)) kind (stack_of M.views frames.now) ≡ stopped) }
+        next (M.makes at) (machine.projected_comma (M.views.tree whole) has_leading (projection_of labels)) kind (stack_of M.views frames.now) ≡ stopped) }
 {
     if is_mark(&kind, Mark::BraceClose) {
-        let projection = M::project(alloc, at, whole, is_late, labels, true)?;
-        Ok(Place::Have(Held::Ready(projection)))
+        let projection = M::project(alloc, at, whole, has_leading, labels, true)?;
+        Ok(Top::Have(Held::Ready(projection)))
     } else {
         match EntryKey::of_token(kind) {
             Some(key) => {
@@ -127,7 +127,7 @@ pub(crate) fn projected_comma<M: Makes>(
                     return Err(Stop::Refused);
                 }
                 let labels = labels.add(alloc, key)?;
-                Ok(Place::Wait(Wait::Projected(whole, is_late, labels)))
+                Ok(Top::Wait(Wait::Projected(whole, has_leading, labels)))
             }
             None => Err(Stop::Refused),
         }

@@ -9,7 +9,7 @@ ghost use Rattle.dh_making.specs.Words.{word_of};
 ghost use Rattle.dh_waits.specs.Inside.Nexts.{next};
 
 use crate::tokens::is_mark;
-use dh_frames::{Frames, Open, Place, Shut, Stop, Wait};
+use dh_frames::{Frames, Open, Shut, Stop, Top, Wait};
 use dh_making::{Makes, Word};
 use dh_syntax::{Mark, TokenKind};
 
@@ -19,14 +19,14 @@ pub(crate) fn quantifier<M: Makes>(
     frames: &Frames<M>,
     is_lambda: bool,
     kind: &TokenKind,
-) -> Result<Place<M>, Stop>
+) -> Result<Top<M>, Stop>
     ensures ok { IfOk result (λ p.
         next (M.makes at) (machine.quantifier is_lambda) kind.now (stack_of M.views frames.now) ≡ state_of M.views frames.now p) }
     ensures err { IfErr result (λ s. s ≡ Refused →
         next (M.makes at) (machine.quantifier is_lambda) kind.now (stack_of M.views frames.now) ≡ stopped) }
 {
     if is_mark(kind, Mark::ParenOpen) {
-        Ok(Place::Wait(Wait::Quantified(is_lambda)))
+        Ok(Top::Wait(Wait::Quantified(is_lambda)))
     } else {
         Err(Stop::Refused)
     }
@@ -38,14 +38,14 @@ pub(crate) fn quantified<M: Makes>(
     frames: &Frames<M>,
     is_lambda: bool,
     kind: TokenKind,
-) -> Result<Place<M>, Stop>
+) -> Result<Top<M>, Stop>
     ensures ok { IfOk result (λ p.
         next (M.makes at) (machine.quantified is_lambda) kind (stack_of M.views frames.now) ≡ state_of M.views frames.now p) }
     ensures err { IfErr result (λ s. s ≡ Refused →
         next (M.makes at) (machine.quantified is_lambda) kind (stack_of M.views frames.now) ≡ stopped) }
 {
     match Word::of_token(kind) {
-        Some(word) => Ok(Place::Wait(Wait::Quantity(is_lambda, word))),
+        Some(word) => Ok(Top::Wait(Wait::Quantity(is_lambda, word))),
         None => Err(Stop::Refused),
     }
 }
@@ -57,7 +57,7 @@ pub(crate) fn quantity<M: Makes>(
     is_lambda: bool,
     word: Word,
     kind: &TokenKind,
-) -> Result<Place<M>, Stop>
+) -> Result<Top<M>, Stop>
     ensures ok { IfOk result (λ p.
         next (M.makes at) (machine.quantity is_lambda (word_of word)) kind.now (stack_of M.views frames.old) ≡ state_of M.views frames.new p) }
     ensures err { IfErr result (λ s. s ≡ Refused →
@@ -65,7 +65,7 @@ pub(crate) fn quantity<M: Makes>(
 {
     if is_mark(kind, Mark::Colon) {
         frames.push_shut(Shut::Domain(is_lambda, word))?;
-        Ok(Place::Need)
+        Ok(Top::Need)
     } else {
         Err(Stop::Refused)
     }
@@ -79,7 +79,7 @@ pub(crate) fn domained<M: Makes>(
     word: Word,
     domain: M::Tree,
     kind: &TokenKind,
-) -> Result<Place<M>, Stop>
+) -> Result<Top<M>, Stop>
     ensures ok { IfOk result (λ p.
         next (M.makes at) (machine.domained is_lambda (word_of word) (M.views.tree domain)) kind.now (stack_of M.views frames.old) ≡ state_of M.views frames.new p) }
     ensures err { IfErr result (λ s. s ≡ Refused →
@@ -87,7 +87,7 @@ pub(crate) fn domained<M: Makes>(
 {
     if is_mark(kind, Mark::Arrow) {
         frames.push_open(Open::Body(is_lambda, word, domain))?;
-        Ok(Place::Need)
+        Ok(Top::Need)
     } else {
         Err(Stop::Refused)
     }
@@ -98,7 +98,7 @@ pub(crate) fn asserting<M: Makes>(
     at: u32,
     frames: &mut Frames<M>,
     kind: &TokenKind,
-) -> Result<Place<M>, Stop>
+) -> Result<Top<M>, Stop>
     ensures ok { IfOk result (λ p.
         next (M.makes at) machine.asserting kind.now (stack_of M.views frames.old) ≡ state_of M.views frames.new p) }
     ensures err { IfErr result (λ s. s ≡ Refused →
@@ -106,7 +106,7 @@ pub(crate) fn asserting<M: Makes>(
 {
     if is_mark(kind, Mark::Colon) {
         frames.push_open(Open::Asserted)?;
-        Ok(Place::Need)
+        Ok(Top::Need)
     } else {
         Err(Stop::Refused)
     }

@@ -9,7 +9,7 @@ ghost use Rattle.dh_making.specs.Words.{key_of};
 ghost use Rattle.dh_waits.specs.Inside.Nexts.{next};
 
 use crate::tokens::is_mark;
-use dh_frames::{Frames, Held, Place, Shut, Stop, Wait};
+use dh_frames::{Frames, Held, Shut, Stop, Top, Wait};
 use dh_making::{EntryKey, Keys, Makes};
 use dh_syntax::{Mark, TokenKind};
 use std::alloc::Global;
@@ -19,30 +19,30 @@ pub(crate) fn record_start<M: Makes>(
     alloc: Global,
     at: u32,
     frames: &Frames<M>,
-    is_late: bool,
+    has_leading: bool,
     kind: TokenKind,
-) -> Result<Place<M>, Stop>
+) -> Result<Top<M>, Stop>
     ensures ok { IfOk result (λ p.
-        next (M.makes at) (machine.record_start is_late) kind (stack_of M.views frames.now) ≡ state_of M.views frames.now p) }
+        next (M.makes at) (machine.record_start has_leading) kind (stack_of M.views frames.now) ≡ state_of M.views frames.now p) }
     ensures err { IfErr result (λ s. s ≡ Refused →
-        next (M.makes at) (machine.record_start is_late) kind (stack_of M.views frames.now) ≡ stopped) }
+        next (M.makes at) (machine.record_start has_leading) kind (stack_of M.views frames.now) ≡ stopped) }
 {
     if is_mark(&kind, Mark::Comma) {
-        if is_late {
+        if has_leading {
             Err(Stop::Refused)
         } else {
-            Ok(Place::Wait(Wait::RecordStart(true)))
+            Ok(Top::Wait(Wait::RecordStart(true)))
         }
     } else if is_mark(&kind, Mark::Equals) {
-        Ok(Place::Wait(Wait::RecordEquals(is_late, false)))
+        Ok(Top::Wait(Wait::RecordEquals(has_leading, false)))
     } else if is_mark(&kind, Mark::BraceClose) {
-        let record_type = M::record_type_none(alloc, at, is_late)?;
-        Ok(Place::Have(Held::Ready(record_type)))
+        let record_type = M::record_type_none(alloc, at, has_leading)?;
+        Ok(Top::Have(Held::Ready(record_type)))
     } else {
         match EntryKey::of_token(kind) {
             Some(key) => {
                 let keys = Keys::one(alloc, key);
-                Ok(Place::Wait(Wait::EntryKeys(is_late, None, keys)))
+                Ok(Top::Wait(Wait::EntryKeys(has_leading, None, keys)))
             }
             None => Err(Stop::Refused),
         }
@@ -54,24 +54,24 @@ pub(crate) fn record_equals<M: Makes>(
     alloc: Global,
     at: u32,
     frames: &Frames<M>,
-    is_late: bool,
+    has_leading: bool,
     ends_late: bool,
     kind: &TokenKind,
-) -> Result<Place<M>, Stop>
+) -> Result<Top<M>, Stop>
     ensures ok { IfOk result (λ p.
-        next (M.makes at) (machine.record_equals is_late ends_late) kind.now (stack_of M.views frames.now) ≡ state_of M.views frames.now p) }
+        next (M.makes at) (machine.record_equals has_leading ends_late) kind.now (stack_of M.views frames.now) ≡ state_of M.views frames.now p) }
     ensures err { IfErr result (λ s. s ≡ Refused →
-        next (M.makes at) (machine.record_equals is_late ends_late) kind.now (stack_of M.views frames.now) ≡ stopped) }
+        next (M.makes at) (machine.record_equals has_leading ends_late) kind.now (stack_of M.views frames.now) ≡ stopped) }
 {
     if is_mark(kind, Mark::Comma) {
         if ends_late {
             Err(Stop::Refused)
         } else {
-            Ok(Place::Wait(Wait::RecordEquals(is_late, true)))
+            Ok(Top::Wait(Wait::RecordEquals(has_leading, true)))
         }
     } else if is_mark(kind, Mark::BraceClose) {
-        let record = M::record_none(alloc, at, is_late, ends_late)?;
-        Ok(Place::Have(Held::Ready(record)))
+        let record = M::record_none(alloc, at, has_leading, ends_late)?;
+        Ok(Top::Have(Held::Ready(record)))
     } else {
         Err(Stop::Refused)
     }
@@ -82,25 +82,25 @@ pub(crate) fn field_comma<M: Makes>(
     alloc: Global,
     at: u32,
     frames: &Frames<M>,
-    is_late: bool,
+    has_leading: bool,
     fields: M::Fields,
     kind: TokenKind,
-) -> Result<Place<M>, Stop>
+) -> Result<Top<M>, Stop>
     ensures ok { IfOk result (λ p.
-        next (M.makes at) (machine.field_comma is_late (M.views.fields fields)) kind (stack_of M.views frames.now) ≡ state_of M.views frames.now p) }
+        next (M.makes at) (machine.field_comma has_leading (M.views.fields fields)) kind (stack_of M.views frames.now) ≡ state_of M.views frames.now p) }
     ensures err { IfErr result (λ s. s ≡ Refused →
-        next (M.makes at) (machine.field_comma is_late (M.views.fields fields)) kind (stack_of M.views frames.now) ≡ stopped) }
+        next (M.makes at) (machine.field_comma has_leading (M.views.fields fields)) kind (stack_of M.views frames.now) ≡ stopped) }
 {
     if is_mark(&kind, Mark::BraceClose) {
-        let record_type = M::record_type(alloc, at, is_late, fields, true)?;
-        Ok(Place::Have(Held::Ready(record_type)))
+        let record_type = M::record_type(alloc, at, has_leading, fields, true)?;
+        Ok(Top::Have(Held::Ready(record_type)))
     } else {
         match EntryKey::of_token(kind) {
             Some(key) => {
                 if M::has_field(alloc, at, &fields, &key)? {
                     return Err(Stop::Refused);
                 }
-                Ok(Place::Wait(Wait::FieldKey(is_late, fields, key)))
+                Ok(Top::Wait(Wait::FieldKey(has_leading, fields, key)))
             }
             None => Err(Stop::Refused),
         }
@@ -111,19 +111,19 @@ pub(crate) fn field_comma<M: Makes>(
 pub(crate) fn field_key<M: Makes>(
     at: u32,
     frames: &mut Frames<M>,
-    is_late: bool,
+    has_leading: bool,
     fields: M::Fields,
     key: EntryKey,
     kind: &TokenKind,
-) -> Result<Place<M>, Stop>
+) -> Result<Top<M>, Stop>
     ensures ok { IfOk result (λ p.
-        next (M.makes at) (machine.field_key is_late (M.views.fields fields) (key_of key)) kind.now (stack_of M.views frames.old) ≡ state_of M.views frames.new p) }
+        next (M.makes at) (machine.field_key has_leading (M.views.fields fields) (key_of key)) kind.now (stack_of M.views frames.old) ≡ state_of M.views frames.new p) }
     ensures err { IfErr result (λ s. s ≡ Refused →
-        next (M.makes at) (machine.field_key is_late (M.views.fields fields) (key_of key)) kind.now (stack_of M.views frames.old) ≡ stopped) }
+        next (M.makes at) (machine.field_key has_leading (M.views.fields fields) (key_of key)) kind.now (stack_of M.views frames.old) ≡ stopped) }
 {
     if is_mark(kind, Mark::Colon) {
-        frames.push_shut(Shut::FieldType(is_late, Some(fields), key))?;
-        Ok(Place::Need)
+        frames.push_shut(Shut::FieldType(has_leading, Some(fields), key))?;
+        Ok(Top::Need)
     } else {
         Err(Stop::Refused)
     }

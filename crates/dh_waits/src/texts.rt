@@ -7,7 +7,7 @@ ghost use Rattle.dh_grammar.specs.Machine as machine;
 ghost use Rattle.dh_grammar.specs.Machine.{stopped};
 ghost use Rattle.dh_waits.specs.Inside.Nexts.{next};
 
-use dh_frames::{Frames, Front, Held, Place, Shut, Stop, Wait};
+use dh_frames::{Frames, Front, Held, Shut, Stop, Top, Wait};
 use dh_making::Makes;
 use dh_syntax::{Piece, TextForm, TokenKind};
 use std::alloc::{AllocError, Global};
@@ -41,7 +41,7 @@ pub(crate) fn text_front<M: Makes>(
     form: TextForm,
     front: Front<M>,
     kind: TokenKind,
-) -> Result<Place<M>, Stop>
+) -> Result<Top<M>, Stop>
     ensures ok { IfOk result (λ p.
         next (M.makes at) (machine.text_front form (front_of M.views front)) kind (stack_of M.views frames.old) ≡ state_of M.views frames.new p) }
     ensures err { IfErr result (λ s. s ≡ Refused →
@@ -50,17 +50,17 @@ pub(crate) fn text_front<M: Makes>(
     match kind {
         TokenKind::TextPiece(piece) => {
             let chunks = sealed::<M>(alloc, at, front, Some(piece))?;
-            Ok(Place::Wait(Wait::TextPiece(form, chunks)))
+            Ok(Top::Wait(Wait::TextPiece(form, chunks)))
         }
         TokenKind::InterpolationOpen => {
             let chunks = sealed::<M>(alloc, at, front, None)?;
             frames.push_shut(Shut::Chunk(form, chunks))?;
-            Ok(Place::Need)
+            Ok(Top::Need)
         }
         TokenKind::TextClose => {
             let chunks = sealed::<M>(alloc, at, front, None)?;
             let text = M::text(alloc, at, form, chunks)?;
-            Ok(Place::Have(Held::Ready(text)))
+            Ok(Top::Have(Held::Ready(text)))
         }
         TokenKind::Name(_) | TokenKind::Quoted(_) | TokenKind::Keyword(_) => Err(Stop::Refused),
         TokenKind::Bool(_) | TokenKind::Builtin(_) | TokenKind::Natural(_) => Err(Stop::Refused),
@@ -79,7 +79,7 @@ pub(crate) fn text_piece<M: Makes>(
     form: TextForm,
     chunks: M::Chunks,
     kind: &TokenKind,
-) -> Result<Place<M>, Stop>
+) -> Result<Top<M>, Stop>
     ensures ok { IfOk result (λ p.
         next (M.makes at) (machine.text_piece form (M.views.chunks chunks)) kind.now (stack_of M.views frames.old) ≡ state_of M.views frames.new p) }
     ensures err { IfErr result (λ s. s ≡ Refused →
@@ -88,11 +88,11 @@ pub(crate) fn text_piece<M: Makes>(
     match kind {
         TokenKind::InterpolationOpen => {
             frames.push_shut(Shut::Chunk(form, chunks))?;
-            Ok(Place::Need)
+            Ok(Top::Need)
         }
         TokenKind::TextClose => {
             let text = M::text(alloc, at, form, chunks)?;
-            Ok(Place::Have(Held::Ready(text)))
+            Ok(Top::Have(Held::Ready(text)))
         }
         TokenKind::Name(_) | TokenKind::Quoted(_) | TokenKind::Keyword(_) => Err(Stop::Refused),
         TokenKind::Bool(_) | TokenKind::Builtin(_) | TokenKind::Natural(_) => Err(Stop::Refused),

@@ -9,7 +9,7 @@ ghost use Rattle.dh_making.specs.Words.{key_of};
 ghost use Rattle.dh_waits.specs.Inside.Nexts.{next};
 
 use crate::tokens::is_mark;
-use dh_frames::{Frames, Held, Open, Place, Shut, Stop, Wait};
+use dh_frames::{Frames, Held, Open, Shut, Stop, Top, Wait};
 use dh_making::{EntryKey, Makes};
 use dh_syntax::{Mark, TokenKind};
 use std::alloc::Global;
@@ -18,17 +18,17 @@ use std::alloc::Global;
 pub(crate) fn empty<M: Makes>(
     at: u32,
     frames: &mut Frames<M>,
-    is_late: bool,
+    has_leading: bool,
     kind: &TokenKind,
-) -> Result<Place<M>, Stop>
+) -> Result<Top<M>, Stop>
     ensures ok { IfOk result (λ p.
-        next (M.makes at) (machine.empty is_late) kind.now (stack_of M.views frames.old) ≡ state_of M.views frames.new p) }
+        next (M.makes at) (machine.empty has_leading) kind.now (stack_of M.views frames.old) ≡ state_of M.views frames.new p) }
     ensures err { IfErr result (λ s. s ≡ Refused →
-        next (M.makes at) (machine.empty is_late) kind.now (stack_of M.views frames.old) ≡ stopped) }
+        next (M.makes at) (machine.empty has_leading) kind.now (stack_of M.views frames.old) ≡ stopped) }
 {
     if is_mark(kind, Mark::Colon) {
-        frames.push_open(Open::Emptied(is_late))?;
-        Ok(Place::Need)
+        frames.push_open(Open::Emptied(has_leading))?;
+        Ok(Top::Need)
     } else {
         Err(Stop::Refused)
     }
@@ -39,26 +39,26 @@ pub(crate) fn union_start<M: Makes>(
     alloc: Global,
     at: u32,
     frames: &Frames<M>,
-    is_late: bool,
+    has_leading: bool,
     kind: TokenKind,
-) -> Result<Place<M>, Stop>
+) -> Result<Top<M>, Stop>
     ensures ok { IfOk result (λ p.
-        next (M.makes at) (machine.union_start is_late) kind (stack_of M.views frames.now) ≡ state_of M.views frames.now p) }
+        next (M.makes at) (machine.union_start has_leading) kind (stack_of M.views frames.now) ≡ state_of M.views frames.now p) }
     ensures err { IfErr result (λ s. s ≡ Refused →
-        next (M.makes at) (machine.union_start is_late) kind (stack_of M.views frames.now) ≡ stopped) }
+        next (M.makes at) (machine.union_start has_leading) kind (stack_of M.views frames.now) ≡ stopped) }
 {
     if is_mark(&kind, Mark::Bar) {
-        if is_late {
+        if has_leading {
             Err(Stop::Refused)
         } else {
-            Ok(Place::Wait(Wait::UnionStart(true)))
+            Ok(Top::Wait(Wait::UnionStart(true)))
         }
     } else if is_mark(&kind, Mark::AngleClose) {
-        let union = M::union_none(alloc, at, is_late)?;
-        Ok(Place::Have(Held::Ready(union)))
+        let union = M::union_none(alloc, at, has_leading)?;
+        Ok(Top::Have(Held::Ready(union)))
     } else {
         match EntryKey::of_token(kind) {
-            Some(key) => Ok(Place::Wait(Wait::Alternative(is_late, None, key))),
+            Some(key) => Ok(Top::Wait(Wait::Alternative(has_leading, None, key))),
             None => Err(Stop::Refused),
         }
     }
@@ -69,26 +69,26 @@ pub(crate) fn alternative<M: Makes>(
     alloc: Global,
     at: u32,
     frames: &mut Frames<M>,
-    is_late: bool,
+    has_leading: bool,
     alternatives: Option<M::Alternatives>,
     key: EntryKey,
     kind: &TokenKind,
-) -> Result<Place<M>, Stop>
+) -> Result<Top<M>, Stop>
     ensures ok { IfOk result (λ p.
-        next (M.makes at) (machine.alternative is_late (option_map M.views.alternatives alternatives) (key_of key)) kind.now (stack_of M.views frames.old) ≡ state_of M.views frames.new p) }
+        next (M.makes at) (machine.alternative has_leading (option_map M.views.alternatives alternatives) (key_of key)) kind.now (stack_of M.views frames.old) ≡ state_of M.views frames.new p) }
     ensures err { IfErr result (λ s. s ≡ Refused →
-        next (M.makes at) (machine.alternative is_late (option_map M.views.alternatives alternatives) (key_of key)) kind.now (stack_of M.views frames.old) ≡ stopped) }
+        next (M.makes at) (machine.alternative has_leading (option_map M.views.alternatives alternatives) (key_of key)) kind.now (stack_of M.views frames.old) ≡ stopped) }
 {
     if is_mark(kind, Mark::Colon) {
-        frames.push_shut(Shut::AlternativeType(is_late, alternatives, key))?;
-        Ok(Place::Need)
+        frames.push_shut(Shut::AlternativeType(has_leading, alternatives, key))?;
+        Ok(Top::Need)
     } else if is_mark(kind, Mark::Bar) {
         let alternatives = M::add_alternative(alloc, at, alternatives, key, M::untyped(at))?;
-        Ok(Place::Wait(Wait::AlternativeBar(is_late, alternatives)))
+        Ok(Top::Wait(Wait::AlternativeBar(has_leading, alternatives)))
     } else if is_mark(kind, Mark::AngleClose) {
         let alternatives = M::add_alternative(alloc, at, alternatives, key, M::untyped(at))?;
-        let union = M::union(alloc, at, is_late, alternatives, false)?;
-        Ok(Place::Have(Held::Ready(union)))
+        let union = M::union(alloc, at, has_leading, alternatives, false)?;
+        Ok(Top::Have(Held::Ready(union)))
     } else {
         Err(Stop::Refused)
     }
@@ -99,25 +99,25 @@ pub(crate) fn alternative_bar<M: Makes>(
     alloc: Global,
     at: u32,
     frames: &Frames<M>,
-    is_late: bool,
+    has_leading: bool,
     alternatives: M::Alternatives,
     kind: TokenKind,
-) -> Result<Place<M>, Stop>
+) -> Result<Top<M>, Stop>
     ensures ok { IfOk result (λ p.
-        next (M.makes at) (machine.alternative_bar is_late (M.views.alternatives alternatives)) kind (stack_of M.views frames.now) ≡ state_of M.views frames.now p) }
+        next (M.makes at) (machine.alternative_bar has_leading (M.views.alternatives alternatives)) kind (stack_of M.views frames.now) ≡ state_of M.views frames.now p) }
     ensures err { IfErr result (λ s. s ≡ Refused →
-        next (M.makes at) (machine.alternative_bar is_late (M.views.alternatives alternatives)) kind (stack_of M.views frames.now) ≡ stopped) }
+        next (M.makes at) (machine.alternative_bar has_leading (M.views.alternatives alternatives)) kind (stack_of M.views frames.now) ≡ stopped) }
 {
     if is_mark(&kind, Mark::AngleClose) {
-        let union = M::union(alloc, at, is_late, alternatives, true)?;
-        Ok(Place::Have(Held::Ready(union)))
+        let union = M::union(alloc, at, has_leading, alternatives, true)?;
+        Ok(Top::Have(Held::Ready(union)))
     } else {
         match EntryKey::of_token(kind) {
             Some(key) => {
                 if M::has_alternative(alloc, at, &alternatives, &key)? {
                     return Err(Stop::Refused);
                 }
-                Ok(Place::Wait(Wait::Alternative(is_late, Some(alternatives), key)))
+                Ok(Top::Wait(Wait::Alternative(has_leading, Some(alternatives), key)))
             }
             None => Err(Stop::Refused),
         }

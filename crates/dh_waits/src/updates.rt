@@ -9,7 +9,7 @@ ghost use Rattle.dh_making.specs.Words.{keys_of};
 ghost use Rattle.dh_waits.specs.Inside.Nexts.{next};
 
 use crate::tokens::is_mark;
-use dh_frames::{Frames, Open, Place, Stop, Wait};
+use dh_frames::{Frames, Open, Stop, Top, Wait};
 use dh_making::{EntryKey, Keys, Makes};
 use dh_syntax::{Mark, TokenKind};
 use std::alloc::Global;
@@ -21,7 +21,7 @@ pub(crate) fn with_start<M: Makes>(
     frames: &Frames<M>,
     whole: M::Tree,
     kind: TokenKind,
-) -> Result<Place<M>, Stop>
+) -> Result<Top<M>, Stop>
     ensures ok { IfOk result (λ p.
         next (M.makes at) (machine.with_start (M.views.tree whole)) kind (stack_of M.views frames.now) ≡ state_of M.views frames.now p) }
     ensures err { IfErr result (λ s. s ≡ Refused →
@@ -30,7 +30,7 @@ pub(crate) fn with_start<M: Makes>(
     match EntryKey::of_token(kind) {
         Some(key) => {
             let keys = Keys::one(alloc, key);
-            Ok(Place::Wait(Wait::WithKeys(whole, keys)))
+            Ok(Top::Wait(Wait::WithKeys(whole, keys)))
         }
         None => Err(Stop::Refused),
     }
@@ -43,17 +43,17 @@ pub(crate) fn with_keys<M: Makes>(
     whole: M::Tree,
     keys: Keys,
     kind: &TokenKind,
-) -> Result<Place<M>, Stop>
+) -> Result<Top<M>, Stop>
     ensures ok { IfOk result (λ p.
         next (M.makes at) (machine.with_keys (M.views.tree whole) (keys_of keys)) kind.now (stack_of M.views frames.old) ≡ state_of M.views frames.new p) }
     ensures err { IfErr result (λ s. s ≡ Refused →
         next (M.makes at) (machine.with_keys (M.views.tree whole) (keys_of keys)) kind.now (stack_of M.views frames.old) ≡ stopped) }
 {
     if is_mark(kind, Mark::Dot) {
-        Ok(Place::Wait(Wait::WithDot(whole, keys)))
+        Ok(Top::Wait(Wait::WithDot(whole, keys)))
     } else if is_mark(kind, Mark::Equals) {
         frames.push_open(Open::Update(whole, keys))?;
-        Ok(Place::Need)
+        Ok(Top::Need)
     } else {
         Err(Stop::Refused)
     }
@@ -66,7 +66,7 @@ pub(crate) fn with_dot<M: Makes>(
     whole: M::Tree,
     keys: Keys,
     kind: TokenKind,
-) -> Result<Place<M>, Stop>
+) -> Result<Top<M>, Stop>
     ensures ok { IfOk result (λ p.
         next (M.makes at) (machine.with_dot (M.views.tree whole) (keys_of keys)) kind (stack_of M.views frames.now) ≡ state_of M.views frames.now p) }
     ensures err { IfErr result (λ s. s ≡ Refused →
@@ -76,7 +76,7 @@ pub(crate) fn with_dot<M: Makes>(
     match EntryKey::of_token(kind) {
         Some(key) => {
             keys.push(key)?;
-            Ok(Place::Wait(Wait::WithKeys(whole, keys)))
+            Ok(Top::Wait(Wait::WithKeys(whole, keys)))
         }
         None => Err(Stop::Refused),
     }

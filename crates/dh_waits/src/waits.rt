@@ -15,7 +15,7 @@ use crate::records::{field_comma, field_key, record_equals, record_start};
 use crate::texts::{text_front, text_piece};
 use crate::unions::{alternative, alternative_bar, empty, union_start};
 use crate::updates::{with_dot, with_keys, with_start};
-use dh_frames::{Frames, Place, Stop, Wait};
+use dh_frames::{Frames, Stop, Top, Wait};
 use dh_making::Makes;
 use dh_syntax::TokenKind;
 use std::alloc::Global;
@@ -27,7 +27,7 @@ pub fn waited<M: Makes>(
     frames: &mut Frames<M>,
     wait: Wait<M>,
     kind: TokenKind,
-) -> Result<Place<M>, Stop>
+) -> Result<Top<M>, Stop>
     ensures ok { IfOk result (λ p. waited (M.makes at) (wait_of M.views wait) kind (stack_of M.views frames.old) ≡ state_of M.views frames.new p) }
     ensures err { IfErr result (λ s. s ≡ Refused → waited (M.makes at) (wait_of M.views wait) kind (stack_of M.views frames.old) ≡ stopped) }
 {
@@ -41,7 +41,7 @@ fn awaited<M: Makes>(
     frames: &mut Frames<M>,
     wait: Wait<M>,
     kind: TokenKind,
-) -> Result<Place<M>, Stop>
+) -> Result<Top<M>, Stop>
     ensures ok { IfOk result (λ p. next (M.makes at) (wait_of M.views wait) kind (stack_of M.views frames.old) ≡ state_of M.views frames.new p) }
     ensures err { IfErr result (λ s. s ≡ Refused → next (M.makes at) (wait_of M.views wait) kind (stack_of M.views frames.old) ≡ stopped) }
 {
@@ -61,39 +61,46 @@ fn awaited<M: Makes>(
         Wait::Indexed(word) => indexed(alloc, at, frames, word, &kind),
         Wait::Moded(import) => moded(alloc, at, frames, import, &kind),
         Wait::Dotted(whole) => dotted(alloc, at, frames, whole, kind),
-        Wait::Projecting(whole, is_late) => projecting(alloc, at, frames, whole, is_late, kind),
-        Wait::Projected(whole, is_late, labels) => {
-            projected(alloc, at, frames, whole, is_late, labels, &kind)
+        Wait::Projecting(whole, has_leading) => projecting(
+            alloc,
+            at,
+            frames,
+            whole,
+            has_leading,
+            kind,
+        ),
+        Wait::Projected(whole, has_leading, labels) => {
+            projected(alloc, at, frames, whole, has_leading, labels, &kind)
         }
-        Wait::ProjectedComma(whole, is_late, labels) => {
-            projected_comma(alloc, at, frames, whole, is_late, labels, kind)
+        Wait::ProjectedComma(whole, has_leading, labels) => {
+            projected_comma(alloc, at, frames, whole, has_leading, labels, kind)
         }
-        Wait::Empty(is_late) => empty(at, frames, is_late, &kind),
-        Wait::UnionStart(is_late) => union_start(alloc, at, frames, is_late, kind),
-        Wait::Alternative(is_late, alternatives, key) => {
-            alternative(alloc, at, frames, is_late, alternatives, key, &kind)
+        Wait::Empty(has_leading) => empty(at, frames, has_leading, &kind),
+        Wait::UnionStart(has_leading) => union_start(alloc, at, frames, has_leading, kind),
+        Wait::Alternative(has_leading, alternatives, key) => {
+            alternative(alloc, at, frames, has_leading, alternatives, key, &kind)
         }
-        Wait::AlternativeBar(is_late, alternatives) => {
-            alternative_bar(alloc, at, frames, is_late, alternatives, kind)
+        Wait::AlternativeBar(has_leading, alternatives) => {
+            alternative_bar(alloc, at, frames, has_leading, alternatives, kind)
         }
-        Wait::RecordStart(is_late) => record_start(alloc, at, frames, is_late, kind),
-        Wait::RecordEquals(is_late, ends_late) => {
-            record_equals(alloc, at, frames, is_late, ends_late, &kind)
+        Wait::RecordStart(has_leading) => record_start(alloc, at, frames, has_leading, kind),
+        Wait::RecordEquals(has_leading, ends_late) => {
+            record_equals(alloc, at, frames, has_leading, ends_late, &kind)
         }
-        Wait::FieldComma(is_late, fields) => {
-            field_comma(alloc, at, frames, is_late, fields, kind)
+        Wait::FieldComma(has_leading, fields) => {
+            field_comma(alloc, at, frames, has_leading, fields, kind)
         }
-        Wait::FieldKey(is_late, fields, key) => {
-            field_key(at, frames, is_late, fields, key, &kind)
+        Wait::FieldKey(has_leading, fields, key) => {
+            field_key(at, frames, has_leading, fields, key, &kind)
         }
-        Wait::EntryComma(is_late, entries) => {
-            entry_comma(alloc, at, frames, is_late, entries, kind)
+        Wait::EntryComma(has_leading, entries) => {
+            entry_comma(alloc, at, frames, has_leading, entries, kind)
         }
-        Wait::EntryKeys(is_late, entries, keys) => {
-            entry_keys(alloc, at, frames, is_late, entries, keys, &kind)
+        Wait::EntryKeys(has_leading, entries, keys) => {
+            entry_keys(alloc, at, frames, has_leading, entries, keys, &kind)
         }
-        Wait::EntryDot(is_late, entries, keys) => {
-            entry_dot(at, frames, is_late, entries, keys, kind)
+        Wait::EntryDot(has_leading, entries, keys) => {
+            entry_dot(at, frames, has_leading, entries, keys, kind)
         }
         Wait::TextFront(form, front) => { text_front(alloc, at, frames, form, front, kind) }
         Wait::TextPiece(form, chunks) => { text_piece(alloc, at, frames, form, chunks, &kind) }

@@ -12,8 +12,8 @@ use Rattle.dh_decode.specs.Inside.Forms.{op_of}
 use Rattle.dh_decode.specs.declared.parts.Part.{Part}
 use Rattle.dh_decode.specs.declared.places.Binding.{Binding}
 use Rattle.dh_decode.specs.declared.places.Frame.{Frame}
-use Rattle.dh_decode.specs.declared.places.Place.{Place}
-use Rattle.dh_decode.specs.declared.places.Place.TheVariants as places
+use Rattle.dh_decode.specs.declared.places.OpenItem.{OpenItem}
+use Rattle.dh_decode.specs.declared.places.OpenItem.TheVariants as places
 use Rattle.dh_decode.specs.declared.places.RowKind.{RowKind}
 use Rattle.dh_decode.specs.declared.places.RowKind.TheVariants as kinds
 use Rattle.dh_decode.specs.declared.places.Start.{Start}
@@ -64,7 +64,7 @@ kind_of kinds.Types = machine.types
 kind_of kinds.Values = machine.values
 kind_of kinds.Alternatives = machine.alternatives
 
-abbrev pub place_of : Place → machine.Place Kept
+abbrev pub place_of : OpenItem → machine.Place Kept
 place_of places.First = machine.first
 place_of (places.Finished t) = machine.finished (part_of t)
 place_of (places.Applying f) = machine.applying (option_map part_of f)
