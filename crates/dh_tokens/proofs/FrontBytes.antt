@@ -1,6 +1,6 @@
 -- The forms at a first byte that begins few of them.
-use Rattle.std.proofs.Common.{◌≡◌, ℕ, zero, suc, ◌+◌, ◌<◌, ◌≤◌, Bool, true, false, ◌&&◌, ◌||◌, if◌then◌else◌, ◌==◌, eqb, ltb, nat_eq, nat_lt, List, [], ◌∷◌, ◌++◌, take, drop, map, codes, Option, Some, None, IfSome, refl, sym, ap, subst, ◌∙◌, inl, inr, arith}
-use Rattle.std.proofs.lemmas.Bool.{and_parts, or_cases, both_ways, eqb-true, le-ltb, ltb-true}
+use Rattle.std.proofs.Common.{◌≡◌, ℕ, zero, suc, ◌+◌, ◌<◌, ◌≤◌, Bool, true, false, ◌&&◌, ◌||◌, if◌then◌else◌, ◌==◌, eqb, ltb, nat_eq, nat_lt, List, [], ◌∷◌, ◌++◌, take, drop, slice_index, map, codes, Option, Some, None, IfSome, refl, sym, ap, subst, ◌∙◌, inl, inr, arith}
+use Rattle.std.proofs.lemmas.Bool.{and_left, and_parts, and_right, or_cases, both_ways, eqb-false, eqb-true, le-ltb, ltb-true, ne_eqb}
 use Rattle.std.specs.List.{starts_with}
 use Rattle.dh_syntax.specs.declared.operators.BinOp.TheVariants as binary
 use Rattle.dh_syntax.specs.declared.tokens.Mark.TheVariants as marks
@@ -111,13 +111,25 @@ code_form-minus_infinity bs f e =
     let starts = and_true (begins "-Infinity" bs) (name_len (drop 1 bs) == 8) (form LeftOut 9) f e in
     at_front (λ t. code_form t ≡ minus_infinity t) (codes "-Infinity") (λ t. code_form-joined_all (codes "-Infinity" ++ t) ∙ joined-none (minus_infinity (codes "-Infinity" ++ t))) bs starts ∙ e
 
+not_begun : (test : Bool) (f : Option Form) → test ≡ false → (if test then f else None) ≡ None
+not_begun test f e = ap (λ (b : Bool). if b then f else None) e
+
+-- bytes with another one second
+other_second : (b c : ℕ) (t : List ℕ) → (first t == c) ≡ false → starts_with nat_eq (b ∷ t) (b ∷ c ∷ []) ≡ false
+other_second b c [] e = and_right (eqb b b) false refl
+other_second b c (d ∷ ds) e = and_right (eqb b b) (eqb c d && true) (and_left (eqb c d) true (ne_eqb c d (λ same. eqb-false d c e (sym same))))
+
+-- a brace that begins no comment
+pub code_form-brace : (bs : List ℕ) → first bs ≡ 123 → (slice_index bs 1 == 45) ≡ false → code_form bs ≡ mark bs
+code_form-brace bs e h =
+    let brace = form (Is (kinds.Mark marks.BraceOpen)) 1 in
+    at_byte (λ t. (slice_index t 1 == 45) ≡ false → code_form t ≡ mark t) 123 (omega arith)
+    (λ t other. code_form-joined_all (123 ∷ t) ∙ ap (λ f. joined f brace) (not_begun (begins "{-" (123 ∷ t)) (comment_form (comment 0 0 (drop 1 t))) (other_second 123 45 t other))) bs e h
+
 -- the forms at a minus
 minus_forms : (bs : List ℕ) → first bs ≡ 45 → code_form bs ≡ joined_all (line_comment bs ∷ integer bs ∷ mark bs ∷ minus_infinity bs ∷ signed_double bs ∷ signed_time bs ∷ [])
 minus_forms bs e =
     at_byte (λ t. code_form t ≡ joined_all (line_comment t ∷ integer t ∷ mark t ∷ minus_infinity t ∷ signed_double t ∷ signed_time t ∷ [])) 45 (omega arith) (λ t. code_form-joined_all (45 ∷ t)) bs e
-
-not_begun : (test : Bool) (f : Option Form) → test ≡ false → (if test then f else None) ≡ None
-not_begun test f e = ap (λ (b : Bool). if b then f else None) e
 
 -- of the marks only the arrow begins with a minus
 minus_mark : (bs : List ℕ) → first bs ≡ 45 → mark bs ≡ (if begins "->" bs then form (Is (kinds.Mark marks.Arrow)) 2 else None)

@@ -50,7 +50,7 @@ digest-none b bs e = unless (begins "sha256:" (b ∷ bs)) (after_sha256 (drop 7 
 
 -- numbers without a sign begin with a digit
 
-natural_len-none : (b : ℕ) (bs : List ℕ) → is_ascii_digit b ≡ false → natural_len (b ∷ bs) ≡ 0
+pub natural_len-none : (b : ℕ) (bs : List ℕ) → is_ascii_digit b ≡ false → natural_len (b ∷ bs) ≡ 0
 natural_len-none b bs e =
     let hex = begins "0x" (b ∷ bs) in
     let hex_len = 2 + prefix_len is_ascii_hexdigit (drop 1 bs) in

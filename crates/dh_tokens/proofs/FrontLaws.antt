@@ -15,7 +15,7 @@ use Rattle.dh_syntax.specs.Text.LexLocations.{after_sha256, digest, digest_digit
 use Rattle.dh_syntax.specs.Text.LexTexts.{closing_len, double_quoted_opening, multi_line_opening, piece_character, text_part}
 use Rattle.dh_syntax.specs.Text.Stretches.{Stretch, UpTo, FaultAt, stretch}
 use Rattle.dh_tokens.specs.Inside.Forms.{HasFaultWithin, IsSound}
-use Rattle.dh_tokens.proofs.FormProperties.{Each, Each-append, form-has, when-has, if-has, longest-has, has-at, has-more}
+use Rattle.dh_tokens.proofs.FormProperties.{Each, Each-append, form-has, when-has, if-has, longest-has, has-more}
 use Rattle.dh_tokens.proofs.PlainForms
 
 -- what holds of the forms that go on for a stretch

@@ -6,7 +6,7 @@ use Rattle.std.proofs.lemmas.List.{drop_all, drop-drop, length-drop}
 use Rattle.std.specs.Str.{continuation_len}
 use Rattle.dh_syntax.specs.Text.Characters.{first, begins, tab, line_end_len, char_len}
 use Rattle.dh_syntax.specs.Text.LexForms.{Found, Faulty, Form, form}
-use Rattle.dh_syntax.specs.Text.LexGaps.{Comment, ClosedAfter, FaultyAfter, NotClosed, Opens, Closes, Passes, Stops, block_comment, comment, comment_form, comment_part, line_character, one_further, by_part}
+use Rattle.dh_syntax.specs.Text.LexGaps.{Comment, ClosedAfter, FaultyAfter, NotClosed, Passes, Stops, block_comment, comment, comment_form, comment_part, line_character, one_further, by_part}
 use Rattle.dh_syntax.specs.Text.Stretches.{Character, Reads, Ends, Faults, Stretch, UpTo, FaultAt, further, stretch, itself, good_character, by_character}
 use Rattle.dh_syntax.proofs.LexingLaws.{lengthened, stretch-skip, after_bytes, comment-skip}
 use Rattle.dh_tokens.specs.Inside.Gaps.{extent}

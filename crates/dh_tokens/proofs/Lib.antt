@@ -7,6 +7,7 @@ pub mod FrontBytes
 pub mod FrontClassLaws
 pub mod FrontClasses
 pub mod FrontLaws
+pub mod FrontMarks
 pub mod FrontWords
 pub mod GapSteps
 pub mod LongestLaws
@@ -20,7 +21,11 @@ pub mod PlaceLaws
 pub mod PlainForms
 pub mod ReadingLaws
 pub mod ReadingSteps
+pub mod ReservedLaws
 pub mod Runs
+pub mod SmallNumbers
+pub mod SmallReading
+pub mod SmallWords
 pub mod TextSteps
 pub mod UrlLaws
 pub mod WholeLaws

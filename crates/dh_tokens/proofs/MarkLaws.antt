@@ -3,15 +3,11 @@ use Rattle.std.proofs.Common.{◌≡◌, ℕ, ◌+◌, ◌<◌, ◌≤◌, List,
 use Rattle.std.proofs.lemmas.List.{at_drop_more}
 use Rattle.std.specs.Borrow.{Bor}
 use Rattle.dh_syntax.specs.declared.tokens.Mark.{Mark}
-use Rattle.dh_syntax.specs.Text.LexForms.{Form, longest}
+use Rattle.dh_syntax.specs.Text.LexForms.{Form}
 use Rattle.dh_syntax.specs.Text.LexMarks.{mark_form}
 use Rattle.dh_tokens.proofs.FormLaws.{longest-cons, joined_assoc}
 use Rattle.dh_tokens.specs.Inside.Forms.{joined}
-use Rattle.dh_tokens.specs.Inside.Marks.{spelled_of}
-
--- the longest mark of a table
-abbrev pub longest_of : List ℕ → List (Bor (List ℕ) × Mark) → Option Form
-longest_of bs table = longest (map (mark_form bs) (map spelled_of table))
+use Rattle.dh_tokens.specs.Inside.Marks.{longest_of, spelled_of}
 
 -- a loop's step
 pub longest_of-step : (bs : List ℕ) (table : List (Bor (List ℕ) × Mark)) (i : ℕ) (d : Bor (List ℕ) × Mark) (best other best' : Option Form) → i < length table

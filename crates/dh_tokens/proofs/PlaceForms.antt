@@ -124,7 +124,7 @@ opening-not_among opens.Brace Outside h = λ b. b
 opening-not_among opens.Brace (Interpolated braces f from place) h = λ b. b
 opening-not_among opens.Brace (Among f from place) h = h
 
-within-not_among : (os : List Open) (p : Place) → ¬ IsAmong p → ¬ IsAmong (within os p)
+pub within-not_among : (os : List Open) (p : Place) → ¬ IsAmong p → ¬ IsAmong (within os p)
 within-not_among [] p h = h
 within-not_among (o ∷ os) p h = within-not_among os (opening o p) (opening-not_among o p h)
 

@@ -10,6 +10,7 @@ pub mod Names
 pub mod Numbers
 pub mod Paths
 pub mod Places
+pub mod SmallForms
 pub mod States
 pub mod Texts
 pub mod Urls

@@ -26,7 +26,7 @@ use std::alloc::{AllocError, Global};
 
 /// What the first byte of a form tells of it.
 #[derive(Clone, Copy, Debug)]
-enum First {
+pub enum First {
     White,
     /// A letter or `_`.
     Word,
@@ -44,7 +44,7 @@ enum First {
 }
 
 impl First {
-    fn of(b: u8) -> First
+    pub fn of(b: u8) -> First
         ensures { IsTrue (is_first result b) }
     {
         match b {

@@ -24,6 +24,7 @@ mod numbers;
 mod paths;
 mod places;
 mod reading;
+mod small_forms;
 mod states;
 mod texts;
 mod urls;

@@ -4,7 +4,7 @@ ghost use Rattle.dh_syntax.specs.Text.Characters.{begins, first, is_name_start};
 ghost use Rattle.dh_syntax.specs.Text.LexForms.{LeftOut, form};
 ghost use Rattle.dh_syntax.specs.Text.LexNames.{name, named, named_in, quoted_name, minus_infinity};
 ghost use Rattle.dh_tokens.specs.Inside.Forms.{form_of, found_of, IsWithin};
-ghost use Rattle.dh_tokens.specs.Inside.Names.{meaning_of, meaning_or_label, reserved_of};
+ghost use Rattle.dh_tokens.specs.Inside.Names.{beginning_with, meaning_of, meaning_or_label, reserved_names, reserved_of};
 
 use crate::characters::{after, byte_at};
 use crate::classes::{Class, run, run_len};
@@ -14,7 +14,7 @@ use std::alloc::{AllocError, Global};
 
 /// What a name is that is no label.
 #[derive(Clone, Copy, Debug)]
-enum Meaning {
+pub enum Meaning {
     Keyword(Keyword),
     Forall,
     Bool(bool),
@@ -23,32 +23,78 @@ enum Meaning {
     LeftOut,
 }
 
-/// The names that are no labels: the keywords, the built-in names, and those of both that are left out.
-static RESERVED: [(&str, Meaning); 59] = [
-    ("if", Meaning::Keyword(Keyword::If)),
-    ("then", Meaning::Keyword(Keyword::Then)),
-    ("else", Meaning::Keyword(Keyword::Else)),
-    ("let", Meaning::Keyword(Keyword::Let)),
-    ("in", Meaning::Keyword(Keyword::In)),
-    ("missing", Meaning::Keyword(Keyword::Missing)),
+/// The names that are no labels, by their first bytes: the keywords, the built-in names, and those of both that are left
+/// out.
+static ON_A: [(&str, Meaning); 2] = [
     ("assert", Meaning::Keyword(Keyword::Assert)),
     ("as", Meaning::Keyword(Keyword::As)),
+];
+
+static ON_E: [(&str, Meaning); 1] = [("else", Meaning::Keyword(Keyword::Else))];
+
+static ON_F: [(&str, Meaning); 1] = [("forall", Meaning::Forall)];
+
+static ON_I: [(&str, Meaning); 2] = [
+    ("if", Meaning::Keyword(Keyword::If)),
+    ("in", Meaning::Keyword(Keyword::In)),
+];
+
+static ON_L: [(&str, Meaning); 1] = [("let", Meaning::Keyword(Keyword::Let))];
+
+static ON_M: [(&str, Meaning); 2] = [
+    ("missing", Meaning::Keyword(Keyword::Missing)),
     ("merge", Meaning::Keyword(Keyword::Merge)),
-    ("Some", Meaning::Keyword(Keyword::Some)),
+];
+
+static ON_S: [(&str, Meaning); 1] = [("showConstructor", Meaning::LeftOut)];
+
+static ON_T: [(&str, Meaning); 2] = [
+    ("then", Meaning::Keyword(Keyword::Then)),
     ("toMap", Meaning::Keyword(Keyword::ToMap)),
-    ("with", Meaning::Keyword(Keyword::With)),
-    ("forall", Meaning::Forall),
-    ("True", Meaning::Bool(true)),
-    ("False", Meaning::Bool(false)),
-    ("Type", Meaning::Builtin(Builtin::TypeConst)),
-    ("Kind", Meaning::Builtin(Builtin::Kind)),
-    ("Sort", Meaning::Builtin(Builtin::Sort)),
+];
+
+static ON_U: [(&str, Meaning); 1] = [("using", Meaning::LeftOut)];
+
+static ON_W: [(&str, Meaning); 1] = [("with", Meaning::Keyword(Keyword::With))];
+
+static ON_CAPITAL_B: [(&str, Meaning); 2] = [
     ("Bool", Meaning::Builtin(Builtin::Bool)),
-    ("Natural", Meaning::Builtin(Builtin::Natural)),
+    ("Bytes", Meaning::LeftOut),
+];
+
+static ON_CAPITAL_D: [(&str, Meaning); 4] = [
+    ("Double", Meaning::LeftOut),
+    ("Double/show", Meaning::LeftOut),
+    ("Date", Meaning::LeftOut),
+    ("Date/show", Meaning::LeftOut),
+];
+
+static ON_CAPITAL_F: [(&str, Meaning); 1] = [("False", Meaning::Bool(false))];
+
+static ON_CAPITAL_I: [(&str, Meaning); 6] = [
     ("Integer", Meaning::Builtin(Builtin::Integer)),
-    ("Text", Meaning::Builtin(Builtin::Text)),
+    ("Integer/show", Meaning::Builtin(Builtin::IntegerShow)),
+    ("Integer/negate", Meaning::Builtin(Builtin::IntegerNegate)),
+    ("Integer/clamp", Meaning::Builtin(Builtin::IntegerClamp)),
+    ("Integer/toDouble", Meaning::LeftOut),
+    ("Infinity", Meaning::LeftOut),
+];
+
+static ON_CAPITAL_K: [(&str, Meaning); 1] = [("Kind", Meaning::Builtin(Builtin::Kind))];
+
+static ON_CAPITAL_L: [(&str, Meaning); 8] = [
     ("List", Meaning::Builtin(Builtin::List)),
-    ("Optional", Meaning::Builtin(Builtin::Optional)),
+    ("List/build", Meaning::Builtin(Builtin::ListBuild)),
+    ("List/fold", Meaning::Builtin(Builtin::ListFold)),
+    ("List/length", Meaning::Builtin(Builtin::ListLength)),
+    ("List/head", Meaning::Builtin(Builtin::ListHead)),
+    ("List/last", Meaning::Builtin(Builtin::ListLast)),
+    ("List/indexed", Meaning::Builtin(Builtin::ListIndexed)),
+    ("List/reverse", Meaning::Builtin(Builtin::ListReverse)),
+];
+
+static ON_CAPITAL_N: [(&str, Meaning); 11] = [
+    ("Natural", Meaning::Builtin(Builtin::Natural)),
     ("None", Meaning::Builtin(Builtin::None)),
     ("Natural/fold", Meaning::Builtin(Builtin::NaturalFold)),
     ("Natural/build", Meaning::Builtin(Builtin::NaturalBuild)),
@@ -64,32 +110,26 @@ static RESERVED: [(&str, Meaning); 59] = [
         "Natural/subtract",
         Meaning::Builtin(Builtin::NaturalSubtract),
     ),
-    ("Integer/show", Meaning::Builtin(Builtin::IntegerShow)),
-    ("Integer/negate", Meaning::Builtin(Builtin::IntegerNegate)),
-    ("Integer/clamp", Meaning::Builtin(Builtin::IntegerClamp)),
-    ("List/build", Meaning::Builtin(Builtin::ListBuild)),
-    ("List/fold", Meaning::Builtin(Builtin::ListFold)),
-    ("List/length", Meaning::Builtin(Builtin::ListLength)),
-    ("List/head", Meaning::Builtin(Builtin::ListHead)),
-    ("List/last", Meaning::Builtin(Builtin::ListLast)),
-    ("List/indexed", Meaning::Builtin(Builtin::ListIndexed)),
-    ("List/reverse", Meaning::Builtin(Builtin::ListReverse)),
+    ("NaN", Meaning::LeftOut),
+];
+
+static ON_CAPITAL_O: [(&str, Meaning); 1] = [("Optional", Meaning::Builtin(Builtin::Optional))];
+
+static ON_CAPITAL_S: [(&str, Meaning); 2] = [
+    ("Some", Meaning::Keyword(Keyword::Some)),
+    ("Sort", Meaning::Builtin(Builtin::Sort)),
+];
+
+static ON_CAPITAL_T: [(&str, Meaning); 9] = [
+    ("True", Meaning::Bool(true)),
+    ("Type", Meaning::Builtin(Builtin::TypeConst)),
+    ("Text", Meaning::Builtin(Builtin::Text)),
     ("Text/show", Meaning::Builtin(Builtin::TextShow)),
     ("Text/replace", Meaning::Builtin(Builtin::TextReplace)),
-    ("Double", Meaning::LeftOut),
-    ("Double/show", Meaning::LeftOut),
-    ("Integer/toDouble", Meaning::LeftOut),
-    ("Date", Meaning::LeftOut),
-    ("Date/show", Meaning::LeftOut),
     ("Time", Meaning::LeftOut),
     ("Time/show", Meaning::LeftOut),
     ("TimeZone", Meaning::LeftOut),
     ("TimeZone/show", Meaning::LeftOut),
-    ("Bytes", Meaning::LeftOut),
-    ("showConstructor", Meaning::LeftOut),
-    ("using", Meaning::LeftOut),
-    ("Infinity", Meaning::LeftOut),
-    ("NaN", Meaning::LeftOut),
 ];
 
 impl Meaning {
@@ -118,11 +158,47 @@ fn meaning_in(table: &[(&str, Meaning)], name: &str) -> Option<Meaning>
     None
 }
 
+/// The names that are no labels and begin with this byte.
+fn beginning_with(first: u8) -> &'static [(&'static str, Meaning)]
+    ensures { map reserved_of result.now ≡ beginning_with first reserved_names }
+{
+    match first {
+        b'a' => &ON_A,
+        b'e' => &ON_E,
+        b'f' => &ON_F,
+        b'i' => &ON_I,
+        b'l' => &ON_L,
+        b'm' => &ON_M,
+        b's' => &ON_S,
+        b't' => &ON_T,
+        b'u' => &ON_U,
+        b'w' => &ON_W,
+        b'B' => &ON_CAPITAL_B,
+        b'D' => &ON_CAPITAL_D,
+        b'F' => &ON_CAPITAL_F,
+        b'I' => &ON_CAPITAL_I,
+        b'K' => &ON_CAPITAL_K,
+        b'L' => &ON_CAPITAL_L,
+        b'N' => &ON_CAPITAL_N,
+        b'O' => &ON_CAPITAL_O,
+        b'S' => &ON_CAPITAL_S,
+        b'T' => &ON_CAPITAL_T,
+        _ => &[],
+    }
+}
+
+/// What a whole name is that is no label.
+pub fn meaning_of_name(name: &str) -> Option<Meaning>
+    ensures { meaning_or_label result name.now ≡ named name.now }
+{
+    meaning_in(beginning_with(byte_at(name.as_bytes(), 0)), name)
+}
+
 /// What a whole name is.
 fn named(alloc: Global, name: &str) -> Result<Found, AllocError>
     ensures { IfOk result (λ f. found_of f ≡ named name.now) }
 {
-    match meaning_in(&RESERVED, name) {
+    match meaning_of_name(name) {
         Some(meaning) => Ok(meaning.found()),
         None => Ok(Found::Is(TokenKind::Name(Label::new(alloc, name)?))),
     }

@@ -1,11 +1,14 @@
 //! Numbers ("natural-literal" and "integer-literal" of `dhall.abnf`), and the literals that are left out.
-ghost use Rattle.std.specs.Prelude.{◌≡◌, ◌<◌, ◌≤◌, [], ◌∷◌, if◌then◌else◌, length, take, IsTrue, Some, IfSome, option_map};
+ghost use Rattle.std.specs.Prelude.{◌≡◌, ◌^◌, ◌<◌, ◌≤◌, [], ◌∷◌, if◌then◌else◌, length, take, IsTrue, Some, IfSome, option_map};
 ghost use Rattle.std.specs.Char.{is_ascii_digit};
+ghost use Rattle.std.specs.List.{prefix_len};
+ghost use Rattle.std.specs.Str.Parse.{digits_value};
+ghost use Rattle.dh_syntax.specs.declared.tokens.TokenKind.TheVariants as kinds;
 ghost use Rattle.dh_syntax.specs.Text.Characters.{first, is_sign};
-ghost use Rattle.dh_syntax.specs.Text.LexForms.{LeftOut, form, longest};
+ghost use Rattle.dh_syntax.specs.Text.LexForms.{Is, LeftOut, form, longest};
 ghost use Rattle.dh_syntax.specs.Text.LexNumbers.{begins_fraction, begins_exponent, fractional, is_shaped, signed_time, binary, bytes_literal, natural_found, integer_found};
 ghost use Rattle.dh_syntax.specs.Text.Numerals.{natural_len, integer_len, is_natural, is_integer, read_natural, read_integer};
-ghost use Rattle.dh_tokens.specs.Inside.Numbers.{unsigned_left_out, signed_left_out, unsigned_form, signed_form};
+ghost use Rattle.dh_tokens.specs.Inside.Numbers.{may_differ, unsigned_left_out, signed_left_out, unsigned_form, signed_form};
 ghost use Rattle.dh_tokens.specs.Inside.Forms.{form_of, found_of, IsWithin};
 
 use crate::characters::{after, byte_at};
@@ -216,6 +219,54 @@ pub fn number(rest: &[u8]) -> Form
         found: natural_found(natural_text(rest, len)),
         len,
     }
+}
+
+/// The least number at which one more digit may be too much for 64 bits.
+const MANY: u64 = 1_844_674_407_370_955_161;
+
+/// The number that the digits at the front write, and how many there are, where it has 64 bits.
+fn decimal(rest: &[u8]) -> Option<(u64, usize)>
+    ensures len { IfSome result (λ d. d.1 ≡ prefix_len is_ascii_digit rest.now) }
+    ensures value { IfSome result (λ d. d.0 ≡ digits_value 10 (take d.1 rest.now)) }
+    ensures small { IfSome result (λ d. d.0 < 2 ^ 64) }
+{
+    let mut value = 0;
+    let mut n = 0;
+    for b in rest {
+        if !b.is_ascii_digit() {
+            break;
+        }
+        if value >= MANY {
+            return None;
+        }
+        value = value * 10 + u64::from(*b - b'0');
+        n += 1;
+    }
+    Some((value, n))
+}
+
+/// Whether another literal may stand where so many digits do, by a few of the bytes: one that is left out, or `0` alone.
+fn may_differ(rest: &[u8], len: usize) -> bool
+    ensures { result ≡ may_differ len rest.now }
+{
+    matches!(byte_at(rest, len), b'.' | b'e' | b'E')
+        || matches!(byte_at(rest, 1), b'x' | b'b')
+        || byte_at(rest, 2) == b':'
+        || byte_at(rest, 4) == b'-'
+        || (byte_at(rest, 0) == b'0' && len != 1)
+}
+
+/// A natural of 64 bits without its sign, and how many bytes it takes, where it is the longest form at a digit.
+pub fn small_natural(rest: &[u8]) -> Option<(u64, usize)>
+    requires { IsTrue (is_ascii_digit (first rest.now)) }
+    ensures value { IfSome result (λ d. unsigned_form rest.now ≡ form (Is (kinds.Natural d.0)) d.1) }
+    ensures within { IfSome result (λ d. (0 < d.1) × (d.1 ≤ length rest.now)) }
+{
+    let (n, len) = decimal(rest)?;
+    if may_differ(rest, len) {
+        return None;
+    }
+    Some((n, len))
 }
 
 /// The longest number with a sign at the front.

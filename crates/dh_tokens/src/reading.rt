@@ -1,10 +1,12 @@
 //! The tokens of a text, one form after the other.
-ghost use Rattle.std.specs.Prelude.{◌≡◌, ◌^◌, ◌<◌, ◌≤◌, ◌+◌, ◌-◌, ◌↔◌, length, drop, None, Ok, IfOk, IfErr, IsTrue};
+ghost use Rattle.std.specs.Prelude.{◌≡◌, ◌^◌, ◌<◌, ◌≤◌, ◌+◌, ◌-◌, ◌↔◌, length, drop, None, Ok, IfOk, IfErr, IfSome, IsTrue};
+ghost use Rattle.std.specs.List.{prefix_len};
 ghost use Rattle.dh_syntax.specs.Text.Lexing.{Start, Outside, end_at, form_at, form_or, lex, no_form, tokens_from};
 ghost use Rattle.dh_syntax.specs.Text.LexTexts.{text_part};
 ghost use Rattle.dh_tokens.specs.Inside.Forms.{form_of, EndsCharacter, IsWithin};
 ghost use Rattle.dh_tokens.specs.Inside.LongestForms.{front_form, interpolated_form};
 ghost use Rattle.dh_tokens.specs.Inside.Places.{EndsAmong, IsRooted, IsWhole, place_of, placed};
+ghost use Rattle.dh_tokens.specs.Inside.SmallForms.{TakesSmall, is_blank, small};
 ghost use Rattle.dh_tokens.specs.Reading.{EndIs, IsFault, onto};
 ghost use Rattle.dh_tokens.specs.Inside.States.{IsReady, before_of, state_of};
 
@@ -14,6 +16,7 @@ use crate::forms::{Form, Found};
 use crate::fronts::{code_form, no_form};
 use crate::gaps::skipped_line;
 use crate::places::{Open, Place};
+use crate::small_forms::{Small, small_form};
 use crate::states::{Before, State};
 use crate::texts::text_part;
 use dh_syntax::{Many, TextForm, Token, TokenKind};
@@ -147,7 +150,9 @@ fn end(state: &State, at: usize) -> Result<Token, LexFault>
 }
 
 /// Reads the form at an offset, and adds the token that it is, if it is one. Answers how many bytes it takes.
-fn read_form(
+// Not inlined, so that what is read most often is not kept waiting by the room that large values take.
+#[inline(never)]
+fn read_any_form(
     alloc: Global,
     state: &mut State,
     made: &mut Tokens,
@@ -173,6 +178,97 @@ fn read_form(
         }
         Err(fault) => Err(fault),
     }
+}
+
+/// Whether small forms are read at a place. Behind a name and `@` a number may be too wide.
+fn takes_small(state: &State) -> bool
+    requires rooted { IsRooted state.now.place.open.items }
+    ensures { IsTrue result → TakesSmall (state_of state.now) }
+{
+    match state.before {
+        Before::AName | Before::Other => is_outside(&state.place),
+        Before::Start | Before::NameAt => false,
+    }
+}
+
+/// The small form at an offset, if one stands there and is read there, and how many bytes it takes.
+fn small_at<'a>(state: &State, text: &'a str, at: usize) -> Option<(Small<'a>, usize)>
+    requires within { at < length text.now }
+    requires rooted { IsRooted state.now.place.open.items }
+    ensures takes { IfSome result (λ m. TakesSmall (state_of state.now)) }
+    ensures value { IfSome result (λ m. small m ≡ form_at (before_of state.now.before) (place_of state.now.place) (drop at text.now)) }
+    ensures within { IfSome result (λ m. (0 < m.1) × (m.1 ≤ length text.now - at)) }
+{
+    if takes_small(state) {
+        small_form(after(text.as_bytes(), at))
+    } else {
+        None
+    }
+}
+
+/// How many blanks stand at the front.
+fn blank_len(rest: &[u8]) -> usize
+    ensures value { result ≡ prefix_len is_blank rest.now }
+    ensures within { result ≤ length rest.now }
+{
+    let mut n = 0;
+    for b in rest {
+        if !matches!(*b, b' ' | b'\t' | b'\n') {
+            break;
+        }
+        n += 1;
+    }
+    n
+}
+
+/// How many blanks stand at an offset, 0 among the characters of a text.
+fn blanks_at(place: &Place, text: &str, at: usize) -> usize
+    requires within { at ≤ length text.now }
+    ensures blanks { result ≤ prefix_len is_blank (drop at text.now) }
+    ensures within { at + result ≤ length text.now }
+    ensures between { 0 < result → place.now.among ≡ None }
+{
+    match place.among {
+        Some(_) => 0,
+        None => blank_len(after(text.as_bytes(), at)),
+    }
+}
+
+/// Reads the form at an offset, or the blanks there at once, and adds the token that the form is, if it is one. Answers
+/// how many bytes are read.
+fn read_form(
+    alloc: Global,
+    state: &mut State,
+    made: &mut Tokens,
+    text: &str,
+    at: usize,
+) -> Result<usize, LexFault>
+    requires within { at < length text.now }
+    requires small { length text.now < 2 ^ 32 }
+    requires ready { IsReady state.old at text.now }
+    ensures ready { IfOk result (λ n. IsReady state.new (at + n) text.now) }
+    ensures within { IfOk result (λ n. (0 < n) × (at + n ≤ length text.now)) }
+    ensures value { IfOk result (λ n. onto made.old (tokens_from (state_of state.old) 0 at (drop at text.now))
+        ≡ onto made.new (tokens_from (state_of state.new) 0 (at + n) (drop (at + n) text.now))) }
+    ensures fault { IfErr result (IsFault (tokens_from (state_of state.old) 0 at (drop at text.now))) }
+{
+    let blanks = blanks_at(&state.place, text, at);
+    if blanks > 0 {
+        state.pass_white();
+        return Ok(blanks);
+    }
+    let Some((small, len)) = small_at(state, text, at) else {
+        return read_any_form(alloc, state, made, text, at);
+    };
+    let token = Token {
+        kind: small.kind(alloc)?,
+        from: at as u32,
+        to: (at + len) as u32,
+        gap: state.gap,
+    };
+    state.pass_small(small);
+    made.push(token)?;
+    Ok(len)
 }
 
 /// The tokens of a text by the longest form at each place, from left to right (the lexical rules of `dhall.abnf`).

@@ -1,15 +1,17 @@
 //! How far the reading of tokens has come.
-ghost use Rattle.std.specs.Prelude.{◌≡◌, ◌+◌, ◌^◌, ◌<◌, true, Some};
+ghost use Rattle.std.specs.Prelude.{◌≡◌, ◌+◌, ◌^◌, ◌<◌, false, true, Some};
 ghost use Rattle.std.specs.Result.{result_map_both};
 ghost use Rattle.dh_syntax.specs.Text.LexForms.{Is};
 ghost use Rattle.dh_syntax.specs.Text.Lexing.{before_after, before_after_white, is_wide_index, start, step_at, token_step};
 ghost use Rattle.dh_tokens.specs.Inside.Forms.{form_of, found_of, IsSound};
 ghost use Rattle.dh_tokens.specs.Inside.Places.{IsRooted, MayStand, place_of};
+ghost use Rattle.dh_tokens.specs.Inside.SmallForms.{small_kind};
 ghost use Rattle.dh_tokens.specs.Inside.States.{StepIs, before_of, state_of};
 
 use crate::faults::LexFault;
 use crate::forms::{Form, Found};
 use crate::places::Place;
+use crate::small_forms::Small;
 use dh_syntax::{Mark, Token, TokenKind};
 use std::alloc::Global;
 use std::mem;
@@ -81,7 +83,7 @@ impl State {
     }
 
     /// Passes white space or a comment.
-    fn pass_white(&mut self)
+    pub fn pass_white(&mut self)
         ensures place { self.new.place ≡ self.old.place }
         ensures before { before_of self.new.before ≡ before_after_white (before_of self.old.before) }
         ensures gap { self.new.gap ≡ true }
@@ -90,6 +92,20 @@ impl State {
             self.before = Before::Other;
         }
         self.gap = true;
+    }
+
+    /// Passes the token of a small form.
+    pub fn pass_small(&mut self, small: Small<'_>)
+        ensures place { self.new.place ≡ self.old.place }
+        ensures before { before_of self.new.before ≡ before_after (small_kind small.entry) (before_of self.old.before) }
+        ensures gap { self.new.gap ≡ false }
+    {
+        self.before = match (small, self.before) {
+            (Small::Name(_), _) => Before::AName,
+            (Small::Mark(Mark::At), Before::AName) => Before::NameAt,
+            _ => Before::Other,
+        };
+        self.gap = false;
     }
 
     /// Passes a token of so many bytes at an offset.

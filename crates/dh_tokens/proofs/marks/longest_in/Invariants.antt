@@ -1,7 +1,6 @@
 use Rattle.std.proofs.Common.{◌≡◌, ◌<◌, ◌≤◌, length, drop, IfSome}
 use Rattle.dh_tokens.specs.Inside.Forms.{joined}
-use Rattle.dh_tokens.specs.Inside.Marks.{best_of}
-use Rattle.dh_tokens.proofs.MarkLaws.{longest_of}
+use Rattle.dh_tokens.specs.Inside.Marks.{best_of, longest_of}
 use Rattle.dh_tokens.proofs.marks.longest_in.Given as goal
 
 abbrev pub invariant-loop-spelling : goal.invariant-loop-spelling

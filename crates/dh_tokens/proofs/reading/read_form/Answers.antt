@@ -1,66 +1,45 @@
-use Rattle.std.proofs.Common.{◌∙◌, ◌+◌, drop, ap, sym}
-use Rattle.dh_syntax.specs.Text.Lexing.{step_at, tokens_from}
-use Rattle.dh_tokens.specs.Reading.{onto}
-use Rattle.dh_tokens.specs.Inside.Forms.{form_of}
+use Rattle.std.proofs.Common.{ℕ, ◌+◌, ap, sym, subst}
+use Rattle.dh_syntax.specs.declared.tokens.Token.{Token}
+use Rattle.dh_syntax.specs.declared.tokens.TokenKind.{TokenKind}
+use Rattle.dh_tokens.specs.declared.places.Place as places
+use Rattle.dh_tokens.specs.declared.small_forms.Small.{Small}
+use Rattle.dh_tokens.specs.Inside.Places.{IsRooted, place_of}
 use Rattle.dh_tokens.specs.Inside.States.{state_of}
-use Rattle.dh_tokens.proofs.ReadingSteps.{FormRead, read-fault, read-gives, read-may_stand, read-skips, read-sound, gives-whole, skips-whole, pass_skips, pass_gives}
+use Rattle.dh_tokens.proofs.SmallReading.{SmallPassed, blanks-onto, blanks-whole, not_among, small-form, small-onto, state-after_white}
 use Rattle.dh_tokens.proofs.reading.read_form.Goals as goal
 
-pub pass-requires-clause-sound : goal.pass-requires-clause-sound
-pass-requires-clause-sound c =
-    let s = state_of c.args.state.now in
-    let f = c.in_ok-form.form in
-    let read : FormRead s c.args.at c.args.text.now f = record { utf8 = c.utf8.text; here = c.requires.within; value = c.in_ok-form.ensures.value; within = c.in_ok-form.ensures.within; whole = c.in_ok-form.ensures.whole } in
-    read-sound s c.args.at c.args.text.now f read
+pub returns-then-blanks-gt0-clause-ready : goal.returns-then-blanks-gt0-clause-ready
+returns-then-blanks-gt0-clause-ready c =
+    let p = c.args.state.now.place in
+    let q = c.pass_white.new.self.place in
+    let Rooted : places.Place → Type 0 = λ r. IsRooted r.open.items in
+    let between = not_among p.among p.open.items (c.blanks_at-blanks.ensures.between c.if-blanks-gt0.true) in
+    (subst Rooted (sym c.pass_white.ensures.place) c.requires.ready.0, blanks-whole (place_of p) (place_of q) (c.args.at + c.blanks_at-blanks.result) c.args.text.now (ap place_of c.pass_white.ensures.place) between)
 
-pub pass-requires-clause-may_stand : goal.pass-requires-clause-may_stand
-pass-requires-clause-may_stand c =
+pub returns-then-blanks-gt0-clause-value : goal.returns-then-blanks-gt0-clause-value
+returns-then-blanks-gt0-clause-value c =
+    let p = c.args.state.now.place in
     let s = state_of c.args.state.now in
-    let f = c.in_ok-form.form in
-    let read : FormRead s c.args.at c.args.text.now f = record { utf8 = c.utf8.text; here = c.requires.within; value = c.in_ok-form.ensures.value; within = c.in_ok-form.ensures.within; whole = c.in_ok-form.ensures.whole } in
-    read-may_stand s c.args.at c.args.text.now f read
+    let t = state_of c.pass_white.new.self in
+    let between = not_among p.among p.open.items (c.blanks_at-blanks.ensures.between c.if-blanks-gt0.true) in
+    let passed = state-after_white s t (ap place_of c.pass_white.ensures.place) c.pass_white.ensures.before c.pass_white.ensures.gap in
+    blanks-onto s t c.args.at c.blanks_at-blanks.result c.args.text.now c.args.made.now between c.if-blanks-gt0.true c.blanks_at-blanks.ensures.blanks passed
 
-pub returns-in-Ok-None-clause-ready : goal.returns-in-Ok-None-clause-ready
-returns-in-Ok-None-clause-ready c =
+pub returns-clause-value : goal.returns-clause-value
+returns-clause-value c =
     let s = state_of c.args.state.now in
-    let t = state_of c.pass.new.self in
-    let f = c.in_ok-form.form in
+    let t = state_of c.pass_small.new.self in
+    let at = c.args.at in
     let text = c.args.text.now in
-    let read : FormRead s c.args.at text f = record { utf8 = c.utf8.text; here = c.requires.within; value = c.in_ok-form.ensures.value; within = c.in_ok-form.ensures.within; whole = c.in_ok-form.ensures.whole } in
-    (c.in-Ok-None.ensures.rooted, skips-whole s t c.args.at text f read (pass_skips c.in-Ok-None.field-0 t f.len (step_at s c.args.at (form_of f)) c.in-Ok-None.field-0-is c.in-Ok-None.ensures.value))
-
-pub returns-in-Ok-None-clause-value : goal.returns-in-Ok-None-clause-value
-returns-in-Ok-None-clause-value c =
-    let s = state_of c.args.state.now in
-    let t = state_of c.pass.new.self in
-    let f = c.in_ok-form.form in
-    let text = c.args.text.now in
-    let read : FormRead s c.args.at text f = record { utf8 = c.utf8.text; here = c.requires.within; value = c.in_ok-form.ensures.value; within = c.in_ok-form.ensures.within; whole = c.in_ok-form.ensures.whole } in
-    ap (onto c.args.made.now) (read-skips s t c.args.at text f read (pass_skips c.in-Ok-None.field-0 t f.len (step_at s c.args.at (form_of f)) c.in-Ok-None.field-0-is c.in-Ok-None.ensures.value))
-
-pub returns-in_ok-push-in-Ok-Some-clause-ready : goal.returns-in_ok-push-in-Ok-Some-clause-ready
-returns-in_ok-push-in-Ok-Some-clause-ready c =
-    let s = state_of c.args.state.now in
-    let t = state_of c.pass.new.self in
-    let f = c.in_ok-form.form in
-    let text = c.args.text.now in
-    let read : FormRead s c.args.at text f = record { utf8 = c.utf8.text; here = c.requires.within; value = c.in_ok-form.ensures.value; within = c.in_ok-form.ensures.within; whole = c.in_ok-form.ensures.whole } in
-    (c.in-Ok-Some.ensures.rooted, gives-whole s t c.in-Ok-Some.token c.args.at text f read (pass_gives c.in-Ok-Some.field-0 c.in-Ok-Some.token t f.len (step_at s c.args.at (form_of f)) c.in-Ok-Some.field-0-is c.in-Ok-Some.ensures.value))
-
-pub returns-in_ok-push-in-Ok-Some-clause-value : goal.returns-in_ok-push-in-Ok-Some-clause-value
-returns-in_ok-push-in-Ok-Some-clause-value c =
-    let s = state_of c.args.state.now in
-    let t = state_of c.pass.new.self in
-    let f = c.in_ok-form.form in
-    let text = c.args.text.now in
-    let read : FormRead s c.args.at text f = record { utf8 = c.utf8.text; here = c.requires.within; value = c.in_ok-form.ensures.value; within = c.in_ok-form.ensures.within; whole = c.in_ok-form.ensures.whole } in
-    let gives = pass_gives c.in-Ok-Some.field-0 c.in-Ok-Some.token t f.len (step_at s c.args.at (form_of f)) c.in-Ok-Some.field-0-is c.in-Ok-Some.ensures.value in
-    read-gives s t c.in-Ok-Some.token c.args.at text f c.args.made.now read gives ∙ ap (λ ts. onto ts (tokens_from t 0 (c.args.at + f.len) (drop (c.args.at + f.len) text))) (sym c.in_ok-push-in-Ok-Some.ensures.ok)
-
-pub returns-in-Err-clause-fault : goal.returns-in-Err-clause-fault
-returns-in-Err-clause-fault c =
-    let s = state_of c.args.state.now in
-    let f = c.in_ok-form.form in
-    let text = c.args.text.now in
-    let read : FormRead s c.args.at text f = record { utf8 = c.utf8.text; here = c.requires.within; value = c.in_ok-form.ensures.value; within = c.in_ok-form.ensures.within; whole = c.in_ok-form.ensures.whole } in
-    read-fault s (state_of c.pass.new.self) c.args.at text f c.in-Err.fault read c.in-Err.ensures.value
+    let m : Small × ℕ = (c.in-Some.small, c.in-Some.len) in
+    let tokens : TokenKind → Token = λ k. record { kind = k; from = at; to = at + c.in-Some.len; gap = c.args.state.now.gap } in
+    let token = tokens c.in_ok-kind.field-0 in
+    let read = small-form s at text m c.utf8.text c.requires.within c.in-Some.ensures.takes c.in-Some.ensures.value c.in-Some.ensures.within in
+    let passed : SmallPassed s t m token at = record {
+      takes = c.in-Some.ensures.takes;
+      is = ap tokens c.in_ok-kind.ensures;
+      place = ap place_of c.pass_small.ensures.place;
+      before = c.pass_small.ensures.before;
+      gap = c.pass_small.ensures.gap;
+    } in
+    small-onto s t m token at text c.args.made.now c.push.new.self read passed c.in_ok-push.ensures.ok
