@@ -1,0 +1,19 @@
+use Rattle.std.proofs.Common.{sym, ◌∙◌, subst}
+use Rattle.dh_script_laws.specs.Asks.{root_key}
+use Rattle.dh_watch.specs.Watchers.{IsStopped}
+use Rattle.dh_watch_laws.specs.Editing.{locs_of}
+use Rattle.dh_watch_rows.specs.KeptRows.{kept_of}
+use Rattle.dh_watching.specs.Steps.{IsRefusal}
+use Rattle.dh_watch_asks.proofs.Answering.{refused}
+use Rattle.dh_watch_asks.proofs.watched.Watch.resolve.Goals as goal
+
+pub returns-in-Err-resolve-clause-refused : goal.returns-in-Err-resolve-clause-refused
+returns-in-Err-resolve-clause-refused g c =
+    let told = g.F.Files.now c.args.self.now.watcher.source.files in
+    let old = kept_of c.args.self.now.watcher.source.rows in
+    let s = kept_of c.resolve.new.self.source.rows in
+    let stop = c.in-Err-resolve.stop in
+    subst (λ f. IsRefusal told (locs_of old.recorded.texts) c.args.loc.now (locs_of s.recorded.texts) f) (sym c.fault_of.ensures)
+    (refused told old s c.args.loc.now stop (c.requires.watched.swept c.requires.fresh) (c.in-Err-resolve.ensures.watched.swept c.in-Err-resolve.ensures.fresh)
+    (λ now t. c.in-Err-resolve.ensures.watched.over now (c.in-Err-resolve.ensures.now ∙ t))
+    (subst (λ k. IsStopped old k s stop) c.in-Ok.ensures c.in-Err-resolve.ensures.stopped))

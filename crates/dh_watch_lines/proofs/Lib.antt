@@ -1,0 +1,3 @@
+pub mod BlameLines
+pub mod RootLines
+pub mod ValueLines
