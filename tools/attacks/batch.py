@@ -336,6 +336,8 @@ def little_memory(runs):
     if start is None:
         runs.notes.append("the program does not start under 64 MB: nothing was asked under a limit")
         return
+    # (below that a stack may lack room to grow, as docs/OPEN.md says)
+    start += MB // 2
     with new_folder() as folder:
         for n in range(40):
             write(folder, f"f{n}", f"Natural/fold 3000 Natural (\\(x : Natural) -> x + 1) {n}")

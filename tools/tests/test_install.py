@@ -96,7 +96,7 @@ class Install(unittest.TestCase):
 
     def test_the_manual_page_has_each_command_and_status_of_help(self):
         page, told = self.page(), run(DHALL, "help").stdout
-        listed = [it for line in told.split("\n")[1:] for it in re.findall(r"^([\w-]+)(?: PLACE\.\.| \[RULE\])?(?:,[^:]*)?: ", line)]
+        listed = [it for line in told.split("\n")[1:] for it in re.findall(r"^([\w-]+)(?: PLACE\.\.| FILE\.\.| N| \[RULE\])?(?:,[^:]*)?: ", line)]
         self.assertEqual([it for it in listed if not it.startswith("-")], COMMANDS)
         for name in COMMANDS:
             self.assertRegex(page, rf"(?m)^       {name}\b")
