@@ -22,7 +22,6 @@ use Rattle.dh_infer.specs.declared.frames.Frame.{Frame}
 use Rattle.dh_infer.specs.declared.frames.State.TheVariants as states
 use Rattle.dh_infer.specs.declared.frames.Failure.{Failure}
 use Rattle.dh_infer.specs.declared.frames.Typer.{Typer}
-use Rattle.dh_infer.specs.declared.halts.Halt.TheVariants as halts
 use Rattle.dh_infer.specs.declared.steps.Ending.TheVariants as endings
 use Rattle.dh_infer.specs.Inside.Debts.{whole, Meets}
 use Rattle.dh_infer.specs.Inside.Lettered.{lettering, lettered}
@@ -77,7 +76,7 @@ module _ (cs : Codes) (k : ℕ) (e : Core) (loaded : IsLoaded cs k (lettered e))
 -- ---- limits
 
 module _ (units : ℕ) (e : Core) where
-  pub halted-fault : (f : NormFault) → IsHalted (units, whole [] (lettered e)) (halts.Fault f) → AnswersFault units e (limit_fault f)
+  pub halted-fault : (f : NormFault) → IsHalted (units, whole [] (lettered e)) f → AnswersFault units e (limit_fault f)
   halted-fault limits.Wide m = met-wide units e m
   halted-fault limits.Deep m = met-deep units e m
   halted-fault limits.Spent (inl m) = inl (met-over units e m)

@@ -13,7 +13,7 @@ use Rattle.dh_infer.specs.declared.frames.Frame.TheVariants as frames
 use Rattle.dh_infer.specs.declared.frames.State.{State}
 use Rattle.dh_infer.specs.declared.frames.State.TheVariants as states
 use Rattle.dh_infer.specs.declared.frames.Typer.{Typer}
-use Rattle.dh_infer.specs.declared.halts.Halt.{Halt}
+use Rattle.dh_syntax.specs.declared.faults.NormFault.{NormFault}
 use Rattle.dh_infer.specs.Inside.Machine.{IsReady, Advances, Halts, IsRefusal, with_frame}
 use Rattle.dh_infer.specs.Inside.NormalCodes.{IsNormalCode, IsStopped}
 use Rattle.dh_infer.specs.Inside.Scopes.{Models, in_scope}
@@ -42,7 +42,7 @@ module _ (m : Typer) (v t a u domain range : ℕ) (ready : IsReady (with_frame (
   argument-differs e s i = laws.wrong-argument m v t a u ready domain range is s i (λ g k. compared m.codes g k v domain ready.state domain-there same false compares e)
 
   module _ (e : same ≡ true) where
-    pub argument-halts : (h : Halt) → IsStopped m.codes u (λ g. sub (first (in_scope g m.scope a)) (g range)) h → Halts (with_frame (frames.Argument t a) m) (states.Typed v) u h
+    pub argument-halts : (h : NormFault) → IsStopped m.codes u (λ g. sub (first (in_scope g m.scope a)) (g range)) h → Halts (with_frame (frames.Argument t a) m) (states.Typed v) u h
     argument-halts h stop = laws.put-halts m v t a u ready domain range is h (λ g k. compared m.codes g k v domain ready.state domain-there same true compares e) stop
 
     pub argument-put : (new : Typer) (c l : ℕ) → new ≡ with_codes new.codes m → Grows m.codes new.codes → IsNormalCode new.codes u l (λ g. sub (first (in_scope g m.scope a)) (g range)) c

@@ -16,7 +16,7 @@ use Rattle.dh_infer.specs.declared.frames.Frame.TheVariants as frames
 use Rattle.dh_infer.specs.declared.frames.State.{State}
 use Rattle.dh_infer.specs.declared.frames.State.TheVariants as states
 use Rattle.dh_infer.specs.declared.frames.Typer.{Typer}
-use Rattle.dh_infer.specs.declared.halts.Halt.{Halt}
+use Rattle.dh_syntax.specs.declared.faults.NormFault.{NormFault}
 use Rattle.dh_infer.specs.Inside.Debts.{Family, whole, Comes}
 use Rattle.dh_infer.specs.Inside.Levels.{IsOf, IsOfBelow}
 use Rattle.dh_infer.specs.Inside.Machine.{debts, IsReady, Advances, Halts, IsRefusal, with_frame}
@@ -45,7 +45,7 @@ some-once : {X : Type 0} (x y : X) → Some x ≡ Some y → x ≡ y
 some-once x y h = cc
 
 -- what is seen of the type of the function
-forall-parts : (n : ℕ) (t : Core) (d : Core) (x : Name) (b : Core) → as_forall t ≡ Some (d, x, b) → IsOf n t → IsOfBelow n b
+pub forall-parts : (n : ℕ) (t : Core) (d : Core) (x : Name) (b : Core) → as_forall t ≡ Some (d, x, b) → IsOf n t → IsOfBelow n b
 forall-parts n (Node ops.Pi (kid None e (kid (Some y) f r))) d x b p h =
     let q : f ≡ b = ap (λ z. z.2) (some-once (e, y, f) (d, x, b) p) in
     let k = of-node n ops.Pi (kid None e (kid (Some y) f r)) h in
@@ -96,7 +96,7 @@ module _ (m : Typer) (v t a u : ℕ) (r : IsReady (with_frame (frames.Argument t
         leads-gives (Comes root (debts g m.scope m.levels m.frames)) l (λ d. Gives (g c))
         (goes-normal root (debts g m.scope m.levels m.frames) (family g) u l (sub (first (in_scope g m.scope a)) (g b)) (g c) (λ f d. Gives f) (by-forall g k true (y g k)) w (n g k)) (g c) (λ d. refl))
 
-    pub put-halts : (h : Halt) → ((g : ℕ → Core) → Models m.codes g → nameless_eq (g v) (g dm) ≡ true)
+    pub put-halts : (h : NormFault) → ((g : ℕ → Core) → Models m.codes g → nameless_eq (g v) (g dm) ≡ true)
         → ((g : ℕ → Core) → Models m.codes g → IsLicensedHalt u (sub (first (in_scope g m.scope a)) (g b)) h)
         → Halts (with_frame (frames.Argument t a) m) (states.Typed v) u h
     put-halts h y n g k root w =

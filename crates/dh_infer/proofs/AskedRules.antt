@@ -27,7 +27,7 @@ use Rattle.dh_infer.specs.declared.frames.Frame.TheVariants as frames
 use Rattle.dh_infer.specs.declared.frames.State.{State}
 use Rattle.dh_infer.specs.declared.frames.State.TheVariants as states
 use Rattle.dh_infer.specs.declared.frames.Typer.{Typer}
-use Rattle.dh_infer.specs.declared.halts.Halt.{Halt}
+use Rattle.dh_syntax.specs.declared.faults.NormFault.{NormFault}
 use Rattle.dh_infer.specs.Inside.Machine.{AreAllOf, AreFoundBelow, IsPlainNode, IsReady, IsRefusal, Advances, Halts, with_frame}
 use Rattle.dh_infer.specs.Inside.NormalCodes.{IsNormalCode, IsStopped}
 use Rattle.dh_infer.specs.Inside.Rests.{bodies_of, op_of, rule_of, with_normal, IsStepOf}
@@ -197,7 +197,7 @@ module _ (m : Typer) (k : ℕ) (us : Vec ℕ Global) (found : Found) (u : ℕ) (
       advances-grown m (with_codes cs m) cs rule_state (states.Typed t) u l grows
       (forms (with_codes cs m) k us found u (ready-grown m rule_state cs grows ready) c (asked-later cs grows (Some (steps.Forms c)) asked) t l n.there n.normal)
 
-  pub formed-stops : (c : ℕ) → AsksFor (Some (steps.Forms c)) → (h : Halt) → IsStopped m.codes u (λ g. g c) h → Halts m rule_state u h
+  pub formed-stops : (c : ℕ) → AsksFor (Some (steps.Forms c)) → (h : NormFault) → IsStopped m.codes u (λ g. g c) h → Halts m rule_state u h
   formed-stops c asked h stop = forms-halts m k us found u ready c asked h stop
 
   module _ (j w : ℕ) (asked : AsksFor (Some (steps.WantsNormal j)))
@@ -213,7 +213,7 @@ module _ (m : Typer) (k : ℕ) (us : Vec ℕ Global) (found : Found) (u : ℕ) (
         (λ g a s. part-of (length (map g m.levels)) (in_scope g m.scope k) s.state.1 j (in_scope g m.scope w) (parts g (models-before m.codes cs g grows a)))
         n.there)
 
-    pub wanted-stops : (h : Halt) → IsStopped m.codes u (λ g. in_scope g m.scope w) h → Halts m rule_state u h
+    pub wanted-stops : (h : NormFault) → IsStopped m.codes u (λ g. in_scope g m.scope w) h → Halts m rule_state u h
     wanted-stops h stop = part-halts m k us found u ready j asked (λ g a. (in_scope g m.scope w, parts g a)) h stop
 
   pub aside-as : (j c : ℕ) → AsksFor (Some (steps.WantsUniverse j)) → slice_get us.items j ≡ Some c

@@ -27,7 +27,7 @@ use Rattle.dh_infer.specs.declared.frames.Frame.TheVariants as frames
 use Rattle.dh_infer.specs.declared.frames.State.{State}
 use Rattle.dh_infer.specs.declared.frames.State.TheVariants as states
 use Rattle.dh_infer.specs.declared.frames.Typer.{Typer}
-use Rattle.dh_infer.specs.declared.halts.Halt.{Halt}
+use Rattle.dh_syntax.specs.declared.faults.NormFault.{NormFault}
 use Rattle.dh_infer.specs.Inside.Debts.{Family, whole, HasFound, Comes, Goes}
 use Rattle.dh_infer.specs.Inside.Levels.{IsOf}
 use Rattle.dh_infer.specs.Inside.Machine.{debts, IsReady, Advances, Halts, IsRefusal, with_frame}
@@ -100,7 +100,7 @@ module _ (m : Typer) (x : Name) (a b c u l : ℕ) (r : IsReady (with_frame (fram
     by-domain : (g : ℕ → Core) → Models m.codes g → (d : ℕ) → domain_family g d ≡ FromNormal (in_scope g m.scope a) (λ e. after_domain g e d)
     by-domain g k d = ap (λ z. typings.given_form z rule.LambdaDomain (λ u. FromNormal (in_scope g m.scope a) (λ e. after_domain g e d))) (yes' g k)
 
-    pub lambda-halts : (h : Halt) → ((g : ℕ → Core) → Models m.codes g → IsLicensedHalt u (in_scope g m.scope a) h) → Halts (with_frame (frames.LambdaDomain x a b) m) (states.Typed c) u h
+    pub lambda-halts : (h : NormFault) → ((g : ℕ → Core) → Models m.codes g → IsLicensedHalt u (in_scope g m.scope a) h) → Halts (with_frame (frames.LambdaDomain x a b) m) (states.Typed c) u h
     lambda-halts h n g k root w =
         halts-normal root (debts g m.scope m.levels m.frames) (domain_family g) u (in_scope g m.scope a) (after_domain g) (by-domain g k) w h (n g k)
 
@@ -176,7 +176,7 @@ module _ (m : Typer) (x : Name) (a n c u : ℕ) (r : IsReady (with_frame (frames
         (goes-normal root (debts g (drop 1 m.scope) (drop 1 m.levels) m.frames) (body_family g) u l (form.forall x (g a) (bound_in (number g) (g c))) (g t) (λ f d. Gives f) (by-sort g false (unlike g k)) w (normal g k))
         (g t) (λ d. refl))
 
-    pub lambda-type_halts : (h : Halt) → ((g : ℕ → Core) → Models m.codes g → IsLicensedHalt u (form.forall x (g a) (bound_in (number g) (g c))) h)
+    pub lambda-type_halts : (h : NormFault) → ((g : ℕ → Core) → Models m.codes g → IsLicensedHalt u (form.forall x (g a) (bound_in (number g) (g c))) h)
         → Halts (with_frame (frames.LambdaBody x a n) m) (states.Typed c) u h
     lambda-type_halts h lic g k root w =
         halts-normal root (debts g (drop 1 m.scope) (drop 1 m.levels) m.frames) (body_family g) u (form.forall x (g a) (bound_in (number g) (g c))) (λ f d. Gives f) (by-sort g false (unlike g k)) w h (lic g k)

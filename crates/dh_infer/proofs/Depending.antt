@@ -19,7 +19,7 @@ use Rattle.dh_infer.specs.declared.frames.Frame.TheVariants as frames
 use Rattle.dh_infer.specs.declared.frames.State.{State}
 use Rattle.dh_infer.specs.declared.frames.State.TheVariants as states
 use Rattle.dh_infer.specs.declared.frames.Typer.{Typer}
-use Rattle.dh_infer.specs.declared.halts.Halt.{Halt}
+use Rattle.dh_syntax.specs.declared.faults.NormFault.{NormFault}
 use Rattle.dh_infer.specs.Inside.Debts.{whole, AreUniverses, Debt, Part, Beside, Used, Root, Comes, Goes}
 use Rattle.dh_infer.specs.Inside.Machine.{debt_of, debts, outer_scope, outer_levels, AreFoundBelow, IsFrameThere, AreFramesThere, IsStateThere, IsOwed, Works, IsReady, Halts}
 use Rattle.dh_infer.specs.Inside.Rests as rests
@@ -156,7 +156,7 @@ low n c l = grind (arith, nat_tests)
 below-of : (n c : ℕ) → nat_lt c n ≡ true → c < n
 below-of n c h = grind (arith, nat_tests)
 
-pub halts-grown : (m : Typer) (cs : Codes) (s : State) (u : ℕ) (h : Halt) → Grows m.codes cs → IsReady m s → Halts (with_codes cs m) s u h → Halts m s u h
+pub halts-grown : (m : Typer) (cs : Codes) (s : State) (u : ℕ) (h : NormFault) → Grows m.codes cs → IsReady m s → Halts (with_codes cs m) s u h → Halts m s u h
 halts-grown m cs s u h grows ready k g a root w =
     k (joined (count m.codes) g cs) (λ c l. by c (nat_lt c (count m.codes)) refl) root
     (works-agree m s ready g (joined (count m.codes) g cs) (λ c l. sym (ap (λ b. if b then g c else code_core cs c) (low (count m.codes) c l))) root u w)

@@ -14,7 +14,7 @@ use Rattle.dh_infer.specs.declared.frames.Frame.TheVariants as frames
 use Rattle.dh_infer.specs.declared.frames.State.{State}
 use Rattle.dh_infer.specs.declared.frames.State.TheVariants as states
 use Rattle.dh_infer.specs.declared.frames.Typer.{Typer}
-use Rattle.dh_infer.specs.declared.halts.Halt.{Halt}
+use Rattle.dh_syntax.specs.declared.faults.NormFault.{NormFault}
 use Rattle.dh_infer.specs.Inside.Debts.{Family, whole, Root, Comes, Goes}
 use Rattle.dh_infer.specs.Inside.Levels.{IsOf}
 use Rattle.dh_infer.specs.Inside.Machine.{debt_of, debts, IsStateThere, IsStateSound, IsOwed, IsNearest, IsSound, IsReady, Advances, Halts, IsRefusal, with_frame}
@@ -51,7 +51,7 @@ module _ (m : Typer) (t a b c u : ℕ) (r : IsReady (with_frame (frames.LetValue
   abbrev compared : (ℕ → Core) → Core → Family
   compared g e d = if nameless_eq (g c) e then rests.let_body (map g m.levels) 2 (in_scope g m.scope a) (below_scope g m.scope b) d else Fails rule.LetAnnotation
 
-  pub annotation-halts : (h : Halt) → ((g : ℕ → Core) → Models m.codes g → IsLicensedHalt u (in_scope g m.scope t) h) → Halts (with_frame (frames.LetValue t a b) m) (states.Typed c) u h
+  pub annotation-halts : (h : NormFault) → ((g : ℕ → Core) → Models m.codes g → IsLicensedHalt u (in_scope g m.scope t) h) → Halts (with_frame (frames.LetValue t a b) m) (states.Typed c) u h
   annotation-halts h n g k root w = halts-normal root (debts g m.scope m.levels m.frames) (family g) u (in_scope g m.scope t) (compared g) (λ d. refl) w h (n g k)
 
   module _ (e l : ℕ) (normal : (g : ℕ → Core) → Models m.codes g → IsNormal u l (in_scope g m.scope t) (g e)) where
@@ -93,7 +93,7 @@ module _ (m : Typer) (a b k u : ℕ) (r : IsReady m (states.Bind a b k)) where
   abbrev with_value : (ℕ → Core) → Core → Family
   with_value g e d = FromPart k (whole (map g m.levels) (sub (first e) (below_scope g m.scope b)) d) (λ t. Gives t)
 
-  pub value-halts : (h : Halt) → ((g : ℕ → Core) → Models m.codes g → IsLicensedHalt u (in_scope g m.scope a) h) → Halts m (states.Bind a b k) u h
+  pub value-halts : (h : NormFault) → ((g : ℕ → Core) → Models m.codes g → IsLicensedHalt u (in_scope g m.scope a) h) → Halts m (states.Bind a b k) u h
   value-halts h n g l root w = halts-normal root (debts g m.scope m.levels m.frames) (body_family g) u (in_scope g m.scope a) (with_value g) (λ d. refl) w h (n g l)
 
   pub value-held : (v l : ℕ) → v < count m.codes → ((g : ℕ → Core) → Models m.codes g → IsNormal u l (in_scope g m.scope a) (g v))

@@ -16,12 +16,13 @@ use Rattle.dh_types.specs.Growing.{Grows}
 use Rattle.dh_types.specs.Memos.{entry}
 use Rattle.dh_types.proofs.ChangedCodes.{both-true, same-number}
 use Rattle.dh_infer.specs.declared.facts.Facts.{Facts}
-use Rattle.dh_infer.specs.declared.halts.Halt.{Halt}
+use Rattle.dh_syntax.specs.declared.faults.NormFault.{NormFault}
 use Rattle.dh_infer.specs.declared.known.Known.{Known}
 use Rattle.dh_infer.specs.declared.sharing.Sharing.{Sharing}
 use Rattle.dh_infer.specs.Inside.Known.{AreForms, IsKnown}
 use Rattle.dh_infer.specs.Inside.NormalCodes.{IsNormalCode, IsStopped}
 use Rattle.dh_infer.specs.Inside.Normals.{IsLicensedHalt}
+use Rattle.dh_infer.specs.Inside.OwnForms.{IsOwnForm}
 use Rattle.dh_infer.specs.Inside.Scopes.{Models}
 use Rattle.dh_infer.specs.Inside.Sharing.{AreShared, IsShareOf}
 use Rattle.dh_infer.proofs.AlikeCodes.{none-shared}
@@ -91,5 +92,25 @@ module _ (old : Codes) (c k : ℕ) (is : (g : ℕ → Core) → Models old g →
     normal = λ g m. along (λ z. IsNormal u l z (g j)) (is g (models-before old new g grows m)).core (n.normal g m);
   }
 
-  pub form-stopped : (u : ℕ) (h : Halt) → IsStopped old u (λ g. g k) h → IsStopped old u (λ g. g c) h
+  pub form-stopped : (u : ℕ) (h : NormFault) → IsStopped old u (λ g. g k) h → IsStopped old u (λ g. g c) h
   form-stopped u h s g m = along (λ z. IsLicensedHalt u z h) (is g m).core (s g m)
+
+-- ---- codes that are their own normal forms
+
+module _ (cs : Codes) (k : Known) (c : ℕ) (h : Keeps cs k) (own : (g : ℕ → Core) → Models cs g → IsKnown g k → IsOwnForm (g c)) where
+  pub own-kept : (m : Memo ℕ) → ((a b : ℕ) → entry m a b ≡ (if nat_eq c a && nat_eq 0 b then Some c else entry k.forms a b)) → Keeps cs (record k { forms = m })
+  own-kept m puts g a =
+      let q = h g a in
+      record {
+        facts = q.facts;
+        shared = q.shared;
+        forms = forms-more g k.forms m c c puts (own g a q) q.forms;
+      }
+
+  pub own-found : (u : ℕ) → c < count cs → IsNormalCode cs u u (λ g. g c) c
+  own-found u there = record { there = there; normal = λ g m. costless u (g c) (g c) (own g m (h g m)) }
+
+pub own-known : (k : Known) (c first form : ℕ) → ((g : ℕ → Core) → AreShared g k.sharing.firsts.items → g first ≡ g c) → entry k.forms first 0 ≡ Some form → form ≡ first
+    → (g : ℕ → Core) → IsKnown g k → IsOwnForm (g c)
+own-known k c first form is kept same g q =
+    along IsOwnForm (is g q.shared) (along (λ z. HasNormalForm cores (g first) (g z)) same (q.forms first 0 form kept))

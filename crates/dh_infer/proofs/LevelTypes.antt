@@ -4,14 +4,14 @@ use Rattle.std.proofs.Common.{ap, sym, ◌∙◌, arith}
 use Rattle.std.proofs.lemmas.Bool.Decides.{nat_tests}
 use Rattle.dh_syntax.specs.Expressions.Numbers.{eq}
 use Rattle.dh_syntax.specs.Expressions.Tree.{Leaf, Name}
-use Rattle.dh_syntax.specs.Names.Nameless.{Ref, Bound, Free, Core, past, renamed_ref, ren, sub, sub_ref, first}
+use Rattle.dh_syntax.specs.Names.Nameless.{Ref, Bound, Free, Core, lifted, past, renamed_ref, ren, sub, sub_ref, first}
 use Rattle.dh_syntax.specs.Normalising.NamelessRuns.{ref_eq}
 use Rattle.dh_syntax.specs.Typing.NamelessTyping.{nth_type, core_scopes}
 use Rattle.dh_syntax.specs.Typing.Scopes.{Context, enter}
 use Rattle.dh_syntax.proofs.Numbers.{eq-itself, eq-true}
 use Rattle.dh_norm.specs.References.{Apart, lower, opened}
 use Rattle.dh_norm.proofs.Opening.{opened-ren}
-use Rattle.dh_types.specs.Closed.{IsClosed}
+use Rattle.dh_types.specs.Closed.{IsClosed, IsClosedBelow}
 use Rattle.dh_infer.specs.Inside.Levels.{past_number, past_level, moving, IsOf, IsOfBelow, AreOf, entering}
 use Rattle.dh_infer.specs.Inside.OpenTyping.{level, level_type, type_at}
 use Rattle.dh_infer.proofs.Agreeing.{leaf, past-same, fixed-more, fixed-ren, fixed-sub, puts-opened}
@@ -67,6 +67,15 @@ of-ren n f e h = fixed-ren (moving n) f (kept-free n f) e h
 
 pub of-closed : (n : ℕ) (e : Core) → IsOf n e → IsClosed e
 of-closed n e h = of-ren n (λ i. suc i) e h
+
+-- the same below a binder
+kept-below : (n : ℕ) (r : Ref) → (lower (moving n)).fun r ≡ r → r ≡ renamed_ref (lifted (λ i. suc i)) r
+kept-below n (Bound zero) h = refl
+kept-below n (Bound (suc j)) h = no-next (suc j) (bound-once (suc (suc j)) (suc j) h)
+kept-below n (Free x m) h = refl
+
+pub of_below-closed : (n : ℕ) (e : Core) → IsOfBelow n e → IsClosedBelow e
+of_below-closed n e h = fixed-ren (lower (moving n)) (lifted (λ i. suc i)) (kept-below n) e h
 
 unput : (n : ℕ) (a : ℕ → Core) (r : Ref) → (moving n).fun r ≡ r → leaf r ≡ sub_ref a r
 unput n a (Bound j) h = no-next j (bound-once (suc j) j h)

@@ -26,6 +26,7 @@ pub mod NamedAnswers
 pub mod NestedTypes
 pub mod NormalCodes
 pub mod Opening
+pub mod OwnForms
 pub mod Parting
 pub mod PartsOf
 pub mod Ranging
@@ -47,4 +48,5 @@ pub mod Stepping
 pub mod Turning
 pub mod TypeIndices
 pub mod Unlettering
+pub mod Unmentioned
 pub mod Unwinding

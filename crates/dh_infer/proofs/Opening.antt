@@ -24,7 +24,7 @@ use Rattle.dh_infer.specs.declared.frames.Frame.TheVariants as frames
 use Rattle.dh_infer.specs.declared.frames.State.{State}
 use Rattle.dh_infer.specs.declared.frames.State.TheVariants as states
 use Rattle.dh_infer.specs.declared.frames.Typer.{Typer}
-use Rattle.dh_infer.specs.declared.halts.Halt.{Halt}
+use Rattle.dh_syntax.specs.declared.faults.NormFault.{NormFault}
 use Rattle.dh_infer.specs.Inside.Machine.{IsReady, Advances, Halts, IsRefusal, with_frame}
 use Rattle.dh_infer.specs.Inside.NormalCodes.{IsNormalCode, IsStopped}
 use Rattle.dh_infer.specs.Inside.Normals.{IsLicensedHalt}
@@ -157,7 +157,7 @@ module _ (m : Typer) (x : Name) (a n c u : ℕ) (ready : IsReady (with_frame (fr
         ∙ ap (form.forall x (g a))
         (range-is.core ∙ ap (bound_in n) (sym (k c ready.state)) ∙ ap (λ z. bound_in z (g c)) ((ready.sound g k).frames.0.1 ∙ sym (map-length g (drop 1 m.levels))))
 
-    pub body-halts : (h : Halt) → IsStopped c2 u (λ g. g function) h → Halts (with_frame (frames.LambdaBody x a n) m) (states.Typed c) u h
+    pub body-halts : (h : NormFault) → IsStopped c2 u (λ g. g function) h → Halts (with_frame (frames.LambdaBody x a n) m) (states.Typed c) u h
     body-halts h stop =
         lambdas.lambda-type_halts m x a n c u ready unlike h (λ g k. along (λ z. IsLicensedHalt u z h) (forall-is g k) (stop (code_core c2) (models-itself c2)))
 

@@ -20,7 +20,7 @@ use Rattle.dh_infer.specs.declared.frames.Frame.TheVariants as frames
 use Rattle.dh_infer.specs.declared.frames.State.{State}
 use Rattle.dh_infer.specs.declared.frames.State.TheVariants as states
 use Rattle.dh_infer.specs.declared.frames.Typer.{Typer}
-use Rattle.dh_infer.specs.declared.halts.Halt.{Halt}
+use Rattle.dh_syntax.specs.declared.faults.NormFault.{NormFault}
 use Rattle.dh_infer.specs.Inside.Debts.{Family, whole, Comes, Goes}
 use Rattle.dh_infer.specs.Inside.Levels.{IsOf}
 use Rattle.dh_infer.specs.Inside.Machine.{debts, IsReady, Advances, Halts, IsRefusal, with_frame}
@@ -61,7 +61,7 @@ module _ (m : Typer) (x : Name) (a b c u l : ℕ) (r : IsReady (with_frame (fram
     by-domain : (g : ℕ → Core) → Models m.codes g → (d : ℕ) → domain_family g d ≡ FromNormal (in_scope g m.scope a) (λ e. after_domain g v e d)
     by-domain g k d = ap (λ z. typings.given_form z rule.ForallDomain (λ w. FromNormal (in_scope g m.scope a) (λ e. after_domain g w e d))) (yes' g k)
 
-    pub forall-halts : (h : Halt) → ((g : ℕ → Core) → Models m.codes g → IsLicensedHalt u (in_scope g m.scope a) h) → Halts (with_frame (frames.ForallDomain x a b) m) (states.Typed c) u h
+    pub forall-halts : (h : NormFault) → ((g : ℕ → Core) → Models m.codes g → IsLicensedHalt u (in_scope g m.scope a) h) → Halts (with_frame (frames.ForallDomain x a b) m) (states.Typed c) u h
     forall-halts h n g k root w =
         halts-normal root (debts g m.scope m.levels m.frames) (domain_family g) u (in_scope g m.scope a) (after_domain g v) (by-domain g k) w h (n g k)
 

@@ -13,8 +13,7 @@ use Rattle.dh_infer.specs.declared.frames.Frame.TheVariants as frames
 use Rattle.dh_infer.specs.declared.frames.State.{State}
 use Rattle.dh_infer.specs.declared.frames.State.TheVariants as states
 use Rattle.dh_infer.specs.declared.frames.Typer.{Typer}
-use Rattle.dh_infer.specs.declared.halts.Halt.{Halt}
-use Rattle.dh_infer.specs.declared.halts.Halt.TheVariants as halts
+use Rattle.dh_syntax.specs.declared.faults.NormFault.{NormFault}
 use Rattle.dh_syntax.specs.declared.faults.NormFault.TheVariants as faults
 use Rattle.dh_infer.specs.Inside.Debts.{whole, Root, Goes}
 use Rattle.dh_infer.specs.Inside.Machine.{debt_of, debts, outer_scope, outer_levels, IsFrameSound, AreFramesSound, AreFoundBelow, IsFrameThere, AreFramesThere, IsStateThere, IsStateSound, Works, IsSound, IsReady, Advances, Halts, IsHalted, with_frame}
@@ -107,7 +106,7 @@ advances-pushed m fs f s t u l p a = along (λ z. Advances m (with_frames z m) s
 pub advances-to : (old m : Typer) (fs : List Frame) (f : Frame) (s t : State) (u l : ℕ) → fs ≡ f ∷ m.frames → Advances old (with_frame f m) s t u l → Advances old (with_frames fs m) s t u l
 advances-to old m fs f s t u l p a = along (λ z. Advances old (with_frames z m) s t u l) (sym p) a
 
-pub memory-halts : (m : Typer) (s : State) (u : ℕ) (h : Halt) → h ≡ halts.Fault faults.Memory → Halts m s u h
+pub memory-halts : (m : Typer) (s : State) (u : ℕ) (h : NormFault) → h ≡ faults.Memory → Halts m s u h
 memory-halts m s u h e g k root w = along (IsHalted root) (sym e) tt
 
 -- ---- steps

@@ -16,7 +16,7 @@ use Rattle.dh_infer.specs.declared.frames.Frame.TheVariants as frames
 use Rattle.dh_infer.specs.declared.frames.State.{State}
 use Rattle.dh_infer.specs.declared.frames.State.TheVariants as states
 use Rattle.dh_infer.specs.declared.frames.Typer.{Typer}
-use Rattle.dh_infer.specs.declared.halts.Halt.{Halt}
+use Rattle.dh_syntax.specs.declared.faults.NormFault.{NormFault}
 use Rattle.dh_infer.specs.declared.known.Known.{Known}
 use Rattle.dh_infer.specs.declared.sharing.Sharing.{Sharing}
 use Rattle.dh_infer.specs.Inside.Debts.{whole, HasFound, Root, Comes}
@@ -106,7 +106,7 @@ first-normal cs u l e k j n h = record {
 
 -- ---- steps
 
-pub keeps_ok : (a b : Typer) (s : State) (u l : ℕ) (k : Known) (r : Result State Halt) → IfOk r (λ t. Advances a b s t u l) → Keeps a.codes k → OnOk r (Keeps b.codes k)
+pub keeps_ok : (a b : Typer) (s : State) (u l : ℕ) (k : Known) (r : Result State NormFault) → IfOk r (λ t. Advances a b s t u l) → Keeps a.codes k → OnOk r (Keeps b.codes k)
 keeps_ok a b s u l k (Ok t) x h = keeps-after a b s t u l k x h
 keeps_ok a b s u l k (Err e) x h = tt
 
@@ -118,6 +118,10 @@ work-after a b s t u v (root, work) x = (root, λ g k. x.works g k root (work g 
 
 pub keeps-grown : (old new : Codes) (k : Known) → Grows old new → Keeps old k → Keeps new k
 keeps-grown old new k grows h g m = h g (models-before old new g grows m)
+
+pub grown_ok : {T : Type 0} (old new : Codes) (k : Known) → Grows old new → Keeps old k → (r : Result T NormFault) → OnOk r (Keeps new k)
+grown_ok old new k grows h (Ok t) = keeps-grown old new k grows h
+grown_ok old new k grows h (Err e) = tt
 
 pub facts-kept : (g : ℕ → Core) (k : Known) (fs : Facts) → IsKnown g k → AreFacts g fs.found.items → IsKnown g (record k { facts = fs })
 facts-kept g k fs h f = record { facts = f; shared = h.shared; forms = h.forms }

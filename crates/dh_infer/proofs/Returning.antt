@@ -12,8 +12,7 @@ use Rattle.dh_infer.specs.declared.frames.Frame.{Frame}
 use Rattle.dh_infer.specs.declared.frames.State.{State}
 use Rattle.dh_infer.specs.declared.frames.State.TheVariants as states
 use Rattle.dh_infer.specs.declared.frames.Typer.{Typer}
-use Rattle.dh_infer.specs.declared.halts.Halt.{Halt}
-use Rattle.dh_infer.specs.declared.halts.Halt.TheVariants as halts
+use Rattle.dh_syntax.specs.declared.faults.NormFault.{NormFault}
 use Rattle.dh_infer.specs.Inside.Debts.{Family, whole, Debt, Root, Comes, Goes}
 use Rattle.dh_infer.specs.Inside.Levels.{IsOf}
 use Rattle.dh_infer.specs.Inside.Machine.{debt_of, debts, outer_scope, outer_levels, IsFrameSound, AreFramesSound, IsFrameThere, IsStateThere, IsStateSound, IsOwed, IsSound, IsReady, Advances, IsHalted, IsNearest, with_frame}
@@ -83,11 +82,11 @@ module _ (m : Typer) (f : Frame) (s : State) (same-scope : outer_scope f m.scope
 -- ---- limits
 
 pub halts-normal : (root : Root) (ds : List Debt) (family : Family) (units : ℕ) (e : Core) (next : Core → Family) → ((d : ℕ) → family d ≡ FromNormal e (λ f. next f d))
-    → Goes root ds family units → (halt : Halt) → IsLicensedHalt units e halt → IsHalted root halt
-halts-normal root ds family units e next h goes (halts.Fault faults.Wide) k = ends-wide root ds (leads-wide (Comes root ds) units family goes e next h k)
-halts-normal root ds family units e next h goes (halts.Fault faults.Deep) k = ends-deep root ds (leads-deep (Comes root ds) units family goes e next h k)
-halts-normal root ds family units e next h goes (halts.Fault faults.Spent) k = ends-over root ds (leads-over (Comes root ds) units family goes e next h k)
-halts-normal root ds family units e next h goes (halts.Fault faults.Memory) k = tt
+    → Goes root ds family units → (halt : NormFault) → IsLicensedHalt units e halt → IsHalted root halt
+halts-normal root ds family units e next h goes faults.Wide k = ends-wide root ds (leads-wide (Comes root ds) units family goes e next h k)
+halts-normal root ds family units e next h goes faults.Deep k = ends-deep root ds (leads-deep (Comes root ds) units family goes e next h k)
+halts-normal root ds family units e next h goes faults.Spent k = ends-over root ds (leads-over (Comes root ds) units family goes e next h k)
+halts-normal root ds family units e next h goes faults.Memory k = tt
 
 pub goes-normal : (root : Root) (ds : List Debt) (family : Family) (units left : ℕ) (e f : Core) (next : Core → Family) → ((d : ℕ) → family d ≡ FromNormal e (λ f. next f d))
     → Goes root ds family units → IsNormal units left e f → Goes root ds (next f) left

@@ -23,7 +23,7 @@ use Rattle.dh_infer.specs.declared.frames.Frame.TheVariants as frames
 use Rattle.dh_infer.specs.declared.frames.State.{State}
 use Rattle.dh_infer.specs.declared.frames.State.TheVariants as states
 use Rattle.dh_infer.specs.declared.frames.Typer.{Typer}
-use Rattle.dh_infer.specs.declared.halts.Halt.{Halt}
+use Rattle.dh_syntax.specs.declared.faults.NormFault.{NormFault}
 use Rattle.dh_infer.specs.Inside.Debts.{Family, whole, Lags, HasFound, IsWithoutType, AreUniverses, Debt, Beside, Leads, through, Root, Comes, Goes}
 use Rattle.dh_infer.specs.Inside.Levels.{IsOf}
 use Rattle.dh_infer.specs.Inside.Machine.{debt_of, debts, IsOwed, IsSound, IsReady, IsPlainNode, AreNormals, AreAllOf, Advances, Halts, IsRefusal, with_frame}
@@ -205,7 +205,7 @@ module _ (m : Typer) (k : ℕ) (us : Vec ℕ Global) (found : Found) (u : ℕ) (
         leads-gives (Comes root (owed g)) l (λ d. Gives (g t))
         (goes-normal root (owed g) (rule_next (numbered g) (it g) (typed g) (facts_of g found)) u l (g c) (g t) (λ f d. Gives f) (forms-family g a s) w.1 (n g a)) (g t) (λ d. refl))
 
-    pub forms-halts : (h : Halt) → ((g : ℕ → Core) → Models m.codes g → IsLicensedHalt u (g c) h) → Halts m here u h
+    pub forms-halts : (h : NormFault) → ((g : ℕ → Core) → Models m.codes g → IsLicensedHalt u (g c) h) → Halts m here u h
     forms-halts h n g a root w =
         halts-normal root (owed g) (rule_next (numbered g) (it g) (typed g) (facts_of g found)) u (g c) (λ f d. Gives f) (forms-family g a (ready.sound g a)) w.1 h (n g a)
 
@@ -259,7 +259,7 @@ module _ (m : Typer) (k : ℕ) (us : Vec ℕ Global) (found : Found) (u : ℕ) (
       normal-family g a s r p next e d =
           family-is g s (facts_of g found) r p d ∙ ap (λ z. by-rule g z d) e ∙ part-known g next (part g a).0 (part g a).1 d
 
-      pub part-halts : (h : Halt) → ((g : ℕ → Core) → (a : Models m.codes g) → IsLicensedHalt u (part g a).0 h) → Halts m here u h
+      pub part-halts : (h : NormFault) → ((g : ℕ → Core) → (a : Models m.codes g) → IsLicensedHalt u (part g a).0 h) → Halts m here u h
       part-halts h n g a root w =
           let (r, p, next, e) = normal-rule g a in
           halts-normal root (owed g) (rule_next (numbered g) (it g) (typed g) (facts_of g found)) u (part g a).0 (λ f. by-rule g (next f))

@@ -9,7 +9,7 @@ use Rattle.dh_infer.specs.declared.frames.Frame.{Frame}
 use Rattle.dh_infer.specs.declared.frames.State.{State}
 use Rattle.dh_infer.specs.declared.frames.State.TheVariants as states
 use Rattle.dh_infer.specs.declared.frames.Typer.{Typer}
-use Rattle.dh_infer.specs.declared.halts.Halt.{Halt}
+use Rattle.dh_syntax.specs.declared.faults.NormFault.{NormFault}
 use Rattle.dh_infer.specs.declared.steps.Ending.TheVariants as endings
 use Rattle.dh_infer.specs.Inside.Debts.{Root}
 use Rattle.dh_infer.specs.Inside.Machine.{debts, IsOwed, IsReady, Advances, IsHalted, Halts, with_frame}
@@ -35,7 +35,7 @@ advances-after a b c s t w u v l x y = record {
 pub ready-after : (a b : Typer) (s t : State) (u v : ℕ) → (root : Root) × IsAtWork root a s u → Advances a b s t u v → IsReady b t
 ready-after a b s t u v (root, work) x = x.ready root (λ g k. work g (x.models g k))
 
-pub halts-after : (a b : Typer) (s t : State) (u v : ℕ) (h : Halt) → Advances a b s t u v → Halts b t v h → (root : Root) → IsAtWork root a s u → IsHalted root h
+pub halts-after : (a b : Typer) (s t : State) (u v : ℕ) (h : NormFault) → Advances a b s t u v → Halts b t v h → (root : Root) → IsAtWork root a s u → IsHalted root h
 halts-after a b s t u v h x y root work =
     let g = code_core b.codes in
     let k = models-own b.codes in

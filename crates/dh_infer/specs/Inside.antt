@@ -11,6 +11,7 @@ pub mod NormalCodes
 pub mod Normals
 pub mod OpenTyping
 pub mod Opening
+pub mod OwnForms
 pub mod Rests
 pub mod Scopes
 pub mod Sharing

@@ -22,18 +22,14 @@ ghost use Rattle.dh_infer.specs.declared.frames.State.TheVariants as states;
 use crate::beginnings::refuse;
 use crate::founds::{with_normal, with_universe};
 use crate::frames::{Frame, State, Typer};
-use crate::halts::Halt;
 use crate::known::{Known, known_form};
 use crate::normals::normal_in_scope;
 use dh_infer_ops::operator_step;
 use dh_store::{CodeId, CodeKid, Codes};
-use dh_syntax::{Op, Purse};
+use dh_syntax::{NormFault, Op, Purse};
 use dh_typerows::row_step;
-use dh_types::{Found, Step, shown, universe_of};
+use dh_types::{Found, Step, rules, shown, universe_of};
 use std::alloc::{AllocError, Global};
-
-/// The rule that a node without a rule fails by.
-const NOT_RESOLVED: u8 = 56;
 
 /// The units of a typing aside.
 const PURSE_ASIDE: u64 = 16_777_216;
@@ -136,7 +132,7 @@ fn formed(
     types: &Vec<CodeId>,
     found: &Found,
     typed: CodeId,
-) -> Result<State, Halt>
+) -> Result<State, NormFault>
     requires ready { IsReady typer.old (states.Rule code types.now found.now) }
     requires known { (g : ℕ → Core) → Models typer.old.codes g → IsKnown g known.old }
     requires asked { (g : ℕ → Core) → Models typer.old.codes g → IsStepOf g code types.now.items found.now (Some (steps.Forms typed)) }
@@ -158,7 +154,7 @@ fn normal_wanted(
     types: Vec<CodeId>,
     found: Found,
     part: u32,
-) -> Result<State, Halt>
+) -> Result<State, NormFault>
     requires ready { IsReady typer.old (states.Rule code types found) }
     requires asked { (g : ℕ → Core) → Models typer.old.codes g → IsStepOf g code types.items found (Some (steps.WantsNormal part)) }
     ensures ok { IfOk result (λ s. Advances typer.old typer.new (states.Rule code types found) s purse.old.left purse.new.left) }
@@ -169,7 +165,7 @@ fn normal_wanted(
             let normal = normal_in_scope(alloc, typer, wanted, purse)?;
             Ok(State::Rule(code, types, with_normal(found, part, normal)))
         }
-        None => Ok(refuse(alloc, NOT_RESOLVED)),
+        None => Ok(refuse(alloc, rules::NOT_RESOLVED)),
     }
 }
 
@@ -182,7 +178,7 @@ fn universe_wanted(
     types: Vec<CodeId>,
     found: Found,
     part: u32,
-) -> Result<State, Halt>
+) -> Result<State, NormFault>
     requires ready { IsReady typer.old (states.Rule code types found) }
     requires asked { (g : ℕ → Core) → Models typer.old.codes g → IsStepOf g code types.items found (Some (steps.WantsUniverse part)) }
     ensures ok { IfOk result (λ s. Advances typer.old typer.new (states.Rule code types found) s purse.old.left purse.new.left) }
@@ -196,7 +192,7 @@ fn universe_wanted(
             purse.left = PURSE_ASIDE;
             Ok(State::Type(typed))
         }
-        None => Ok(refuse(alloc, NOT_RESOLVED)),
+        None => Ok(refuse(alloc, rules::NOT_RESOLVED)),
     }
 }
 
@@ -210,7 +206,7 @@ fn go_on(
     types: Vec<CodeId>,
     found: Found,
     step: Step,
-) -> Result<State, Halt>
+) -> Result<State, NormFault>
     requires ready { IsReady typer.old (states.Rule code types found) }
     requires known { (g : ℕ → Core) → Models typer.old.codes g → IsKnown g known.old }
     requires asked { (g : ℕ → Core) → Models typer.old.codes g → IsStepOf g code types.items found (Some step) }
@@ -237,7 +233,7 @@ pub(crate) fn ask(
     code: CodeId,
     types: Vec<CodeId>,
     found: Found,
-) -> Result<State, Halt>
+) -> Result<State, NormFault>
     requires ready { IsReady typer.old (states.Rule code types found) }
     requires known { (g : ℕ → Core) → Models typer.old.codes g → IsKnown g known.old }
     ensures ok { IfOk result (λ s. Advances typer.old typer.new (states.Rule code types found) s purse.old.left purse.new.left) }
@@ -246,7 +242,7 @@ pub(crate) fn ask(
 {
     match step_of(alloc, typer, code, &types, &found)? {
         Some(step) => go_on(alloc, typer, purse, known, code, types, found, step),
-        None => Ok(refuse(alloc, NOT_RESOLVED)),
+        None => Ok(refuse(alloc, rules::NOT_RESOLVED)),
     }
 }
 

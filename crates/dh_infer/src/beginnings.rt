@@ -4,7 +4,6 @@ ghost use Rattle.std.specs.Prelude.{◌≡◌, ℕ, IfOk, IfErr};
 ghost use Rattle.dh_syntax.specs.Names.Nameless.{Core};
 ghost use Rattle.dh_syntax.specs.declared.faults.NormFault.TheVariants.{Memory};
 ghost use Rattle.dh_store.specs.Growth.{count};
-ghost use Rattle.dh_infer.specs.declared.halts.Halt.TheVariants.{Fault};
 ghost use Rattle.dh_infer.specs.Inside.Forms.{IsForm, IsFormThere, IsLiteral};
 ghost use Rattle.dh_infer.specs.Inside.Machine.{Advances, Halts, IsReady, IsRefusal, with_frame};
 ghost use Rattle.dh_infer.specs.Inside.Scopes.{Models};
@@ -13,12 +12,11 @@ ghost use Rattle.dh_infer.specs.declared.frames.State.TheVariants as states;
 
 use crate::forms::{Form, form_of};
 use crate::frames::{Failure, Frame, State, Typer};
-use crate::halts::Halt;
 use crate::sorts::is_sort;
 use dh_builtin_types::type_of;
 use dh_store::CodeId;
-use dh_syntax::{Builtin, Purse};
-use dh_types::constant;
+use dh_syntax::{Builtin, NormFault, Purse};
+use dh_types::{constant, rules};
 use std::alloc::Global;
 
 /// The rule fails at the expression itself.
@@ -38,14 +36,14 @@ fn variable(
     purse: &Purse,
     code: CodeId,
     index: u32,
-) -> Result<State, Halt>
+) -> Result<State, NormFault>
     requires ready { IsReady typer.old (states.Type code) }
     requires form { (g : ℕ → Core) → Models typer.old.codes g → IsForm g (g code) (of_forms.Bound index) }
     ensures ok { IfOk result (λ s. Advances typer.old typer.new (states.Type code) s purse.now.left purse.now.left) }
     ensures err { IfErr result (λ h. Halts typer.old (states.Type code) purse.now.left h) }
 {
     match typer.scope.get(index as usize) {
-        None => Ok(refuse(alloc, 1)),
+        None => Ok(refuse(alloc, rules::UNBOUND_VARIABLE)),
         Some(entry) => match entry.typed {
             Some(typed) => Ok(State::Typed(typed)),
             None => {
@@ -64,7 +62,7 @@ fn level(
     purse: &Purse,
     code: CodeId,
     number: u32,
-) -> Result<State, Halt>
+) -> Result<State, NormFault>
     requires ready { IsReady typer.now (states.Type code) }
     requires form { (g : ℕ → Core) → Models typer.now.codes g → IsForm g (g code) (of_forms.Level number) }
     ensures ok { IfOk result (λ s. Advances typer.now typer.now (states.Type code) s purse.now.left purse.now.left) }
@@ -75,10 +73,10 @@ fn level(
     if at < open {
         match typer.levels.get(open - 1 - at) {
             Some(typed) => Ok(State::Typed(*typed)),
-            None => Ok(refuse(alloc, 1)),
+            None => Ok(refuse(alloc, rules::UNBOUND_VARIABLE)),
         }
     } else {
-        Ok(refuse(alloc, 1))
+        Ok(refuse(alloc, rules::UNBOUND_VARIABLE))
     }
 }
 
@@ -88,7 +86,7 @@ fn free(alloc: Global, typer: &Typer, purse: &Purse, code: CodeId) -> State
     requires form { (g : ℕ → Core) → Models typer.now.codes g → IsForm g (g code) of_forms.Free }
     ensures { Advances typer.now typer.now (states.Type code) result purse.now.left purse.now.left }
 {
-    refuse(alloc, 1)
+    refuse(alloc, rules::UNBOUND_VARIABLE)
 }
 
 /// A built-in.
@@ -98,7 +96,7 @@ fn builtin(
     purse: &Purse,
     code: CodeId,
     builtin: Builtin,
-) -> Result<State, Halt>
+) -> Result<State, NormFault>
     requires ready { IsReady typer.old (states.Type code) }
     requires form { (g : ℕ → Core) → Models typer.old.codes g → IsForm g (g code) (of_forms.Builtin builtin) }
     ensures ok { IfOk result (λ s. Advances typer.old typer.new (states.Type code) s purse.now.left purse.now.left) }
@@ -106,7 +104,7 @@ fn builtin(
 {
     match type_of(alloc, &mut typer.codes, builtin)? {
         Some(typed) => Ok(State::Typed(typed)),
-        None => Ok(refuse(alloc, 2)),
+        None => Ok(refuse(alloc, rules::SORT_HAS_NO_TYPE)),
     }
 }
 
@@ -117,7 +115,7 @@ fn literal(
     purse: &Purse,
     code: CodeId,
     builtin: Builtin,
-) -> Result<State, Halt>
+) -> Result<State, NormFault>
     requires ready { IsReady typer.old (states.Type code) }
     requires form { (g : ℕ → Core) → Models typer.old.codes g → IsLiteral (g code) builtin }
     ensures ok { IfOk result (λ s. Advances typer.old typer.new (states.Type code) s purse.now.left purse.now.left) }
@@ -135,7 +133,7 @@ fn annotated_let(
     annotation: CodeId,
     value: CodeId,
     body: CodeId,
-) -> Result<State, Halt>
+) -> Result<State, NormFault>
     requires ready { IsReady typer.old (states.Type code) }
     requires form { (g : ℕ → Core) → Models typer.old.codes g → IsForm g (g code) (of_forms.LetTyped annotation value body) }
     requires there { IsFormThere (count typer.old.codes) (of_forms.LetTyped annotation value body) }
@@ -154,9 +152,9 @@ fn annotated_let(
 }
 
 /// A node whose first part to be typed is this one, and which waits for its type.
-fn first_part(typer: &mut Typer, frame: Frame, part: CodeId) -> Result<State, Halt>
+fn first_part(typer: &mut Typer, frame: Frame, part: CodeId) -> Result<State, NormFault>
     ensures ok { IfOk result (λ s. (s ≡ states.Type part) × (typer.new ≡ with_frame frame typer.old)) }
-    ensures err { IfErr result (λ h. h ≡ Fault Memory) }
+    ensures err { IfErr result (λ h. h ≡ Memory) }
 {
     typer.frames.push(frame)?;
     Ok(State::Type(part))
@@ -168,7 +166,7 @@ pub(crate) fn begin(
     typer: &mut Typer,
     purse: &Purse,
     code: CodeId,
-) -> Result<State, Halt>
+) -> Result<State, NormFault>
     requires ready { IsReady typer.old (states.Type code) }
     ensures ok { IfOk result (λ s. Advances typer.old typer.new (states.Type code) s purse.now.left purse.now.left) }
     ensures err { IfErr result (λ h. Halts typer.old (states.Type code) purse.now.left h) }

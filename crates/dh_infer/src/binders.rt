@@ -16,12 +16,11 @@ ghost use Rattle.dh_infer.specs.declared.frames.State.TheVariants as states;
 
 use crate::beginnings::refuse;
 use crate::frames::{Entry, Frame, State, Typer};
-use crate::halts::Halt;
 use crate::known::{Known, known_form, shared_normal};
 use crate::piles::Pile;
 use dh_store::{Code, CodeId, Codes};
-use dh_syntax::{Builtin, Label, Purse};
-use dh_types::{bound_in, constant, function_type, is_constant, universe_of};
+use dh_syntax::{Builtin, Label, NormFault, Purse};
+use dh_types::{bound_in, constant, function_type, is_constant, rules, universe_of};
 use std::alloc::{AllocError, Global};
 
 /// The next number of a variable.
@@ -80,7 +79,7 @@ pub(crate) fn lambda_domain(
     body: CodeId,
     typed: CodeId,
     purse: &mut Purse,
-) -> Result<State, Halt>
+) -> Result<State, NormFault>
     requires ready { IsReady (with_frame (frames.LambdaDomain name domain body) typer.old) (states.Typed typed) }
     requires known { (g : ℕ → Core) → Models typer.old.codes g → IsKnown g known.old }
     ensures ok { IfOk result (λ s. Advances (with_frame (frames.LambdaDomain name domain body) typer.old) typer.new (states.Typed typed) s purse.old.left purse.new.left) }
@@ -88,7 +87,7 @@ pub(crate) fn lambda_domain(
     ensures known { OnOk result ((g : ℕ → Core) → Models typer.new.codes g → IsKnown g known.new) }
 {
     let Some(_) = universe_of(&typer.codes, typed) else {
-        return Ok(refuse(alloc, 3));
+        return Ok(refuse(alloc, rules::LAMBDA_DOMAIN));
     };
     let normal = shared_normal(alloc, typer, known, domain, purse)?;
     let number = next_number(&typer.levels)?;
@@ -112,7 +111,7 @@ pub(crate) fn lambda_body(
     number: u32,
     typed: CodeId,
     purse: &mut Purse,
-) -> Result<State, Halt>
+) -> Result<State, NormFault>
     requires ready { IsReady (with_frame (frames.LambdaBody name domain number) typer.old) (states.Typed typed) }
     requires known { (g : ℕ → Core) → Models typer.old.codes g → IsKnown g known.old }
     ensures ok { IfOk result (λ s. Advances (with_frame (frames.LambdaBody name domain number) typer.old) typer.new (states.Typed typed) s purse.old.left purse.new.left) }
@@ -121,7 +120,7 @@ pub(crate) fn lambda_body(
 {
     leave(typer);
     if is_constant(&typer.codes, Builtin::Sort, typed) {
-        return Ok(refuse(alloc, 4));
+        return Ok(refuse(alloc, rules::LAMBDA_BODY));
     }
     let range = bound_in(alloc, &mut typer.codes, typed, number)?;
     let function = function_type(alloc, &mut typer.codes, name, domain, range)?;
@@ -139,7 +138,7 @@ pub(crate) fn forall_domain(
     range: CodeId,
     typed: CodeId,
     purse: &mut Purse,
-) -> Result<State, Halt>
+) -> Result<State, NormFault>
     requires ready { IsReady (with_frame (frames.ForallDomain name domain range) typer.old) (states.Typed typed) }
     requires known { (g : ℕ → Core) → Models typer.old.codes g → IsKnown g known.old }
     ensures ok { IfOk result (λ s. Advances (with_frame (frames.ForallDomain name domain range) typer.old) typer.new (states.Typed typed) s purse.old.left purse.new.left) }
@@ -147,7 +146,7 @@ pub(crate) fn forall_domain(
     ensures known { OnOk result ((g : ℕ → Core) → Models typer.new.codes g → IsKnown g known.new) }
 {
     let Some(universe) = universe_of(&typer.codes, typed) else {
-        return Ok(refuse(alloc, 5));
+        return Ok(refuse(alloc, rules::FORALL_DOMAIN));
     };
     let normal = shared_normal(alloc, typer, known, domain, purse)?;
     let number = next_number(&typer.levels)?;
@@ -174,14 +173,14 @@ pub(crate) fn forall_range(
     universe: Builtin,
     typed: CodeId,
     purse: &Purse,
-) -> Result<State, Halt>
+) -> Result<State, NormFault>
     requires ready { IsReady (with_frame (frames.ForallRange universe) typer.old) (states.Typed typed) }
     ensures ok { IfOk result (λ s. Advances (with_frame (frames.ForallRange universe) typer.old) typer.new (states.Typed typed) s purse.now.left purse.now.left) }
     ensures err { IfErr result (λ h. Halts (with_frame (frames.ForallRange universe) typer.old) (states.Typed typed) purse.now.left h) }
 {
     leave(typer);
     match universe_of(&typer.codes, typed) {
-        None => Ok(refuse(alloc, 6)),
+        None => Ok(refuse(alloc, rules::FORALL_RANGE)),
         Some(range) => {
             let found = constant(alloc, &mut typer.codes, function_universe(universe, range))?;
             Ok(State::Typed(found))

@@ -11,9 +11,8 @@ ghost use Rattle.dh_infer.specs.declared.frames.Frame.TheVariants as of_frames;
 ghost use Rattle.dh_infer.specs.declared.frames.State.TheVariants as states;
 
 use crate::frames::{Frame, State, Typer};
-use crate::halts::Halt;
 use dh_store::{CodeId, Codes};
-use dh_syntax::{BinOp, Label, Op, Purse};
+use dh_syntax::{BinOp, Label, NormFault, Op, Purse};
 use dh_types::plain_node;
 use std::alloc::{AllocError, Global};
 
@@ -59,7 +58,7 @@ pub(crate) fn completed_type_typed(
     typed: CodeId,
     value: CodeId,
     found: CodeId,
-) -> Result<State, Halt>
+) -> Result<State, NormFault>
     requires ready { IsReady (with_frame (of_frames.CompletedType typed value) typer.old) (states.Typed found) }
     ensures ok { IfOk result (λ s. Advances (with_frame (of_frames.CompletedType typed value) typer.old) typer.new (states.Typed found) s purse.now.left purse.now.left) }
     ensures err { IfErr result (λ h. Halts (with_frame (of_frames.CompletedType typed value) typer.old) (states.Typed found) purse.now.left h) }
@@ -76,7 +75,7 @@ pub(crate) fn completed_record_typed(
     typed: CodeId,
     value: CodeId,
     found: CodeId,
-) -> Result<State, Halt>
+) -> Result<State, NormFault>
     requires ready { IsReady (with_frame (of_frames.CompletedRecord typed value) typer.old) (states.Typed found) }
     ensures ok { IfOk result (λ s. Advances (with_frame (of_frames.CompletedRecord typed value) typer.old) typer.new (states.Typed found) s purse.now.left purse.now.left) }
     ensures err { IfErr result (λ h. Halts (with_frame (of_frames.CompletedRecord typed value) typer.old) (states.Typed found) purse.now.left h) }

@@ -2,7 +2,6 @@
 
 ghost use Rattle.std.specs.Prelude.{◌≡◌, IfOk, IfErr};
 ghost use Rattle.dh_syntax.specs.declared.faults.NormFault.TheVariants.{Memory};
-ghost use Rattle.dh_infer.specs.declared.halts.Halt.TheVariants.{Fault};
 ghost use Rattle.dh_infer.specs.Inside.Leaving.{outside_binder, outside_let, IsFailedBelow};
 ghost use Rattle.dh_infer.specs.Inside.Machine.{Advances, Halts, IsReady, IsRefusal, with_frame};
 ghost use Rattle.dh_infer.specs.declared.frames.State.TheVariants as states;
@@ -10,14 +9,14 @@ ghost use Rattle.dh_infer.specs.declared.frames.State.TheVariants as states;
 use crate::beginnings::refuse;
 use crate::founds::with_universe;
 use crate::frames::{Failure, Frame, State, Typer};
-use crate::halts::Halt;
-use dh_syntax::Purse;
+use dh_syntax::{NormFault, Purse};
+use dh_types::rules;
 use std::alloc::Global;
 
 /// The failure is one below the part with this number.
-fn outwards(failure: Failure, part: u32) -> Result<State, Halt>
+fn outwards(failure: Failure, part: u32) -> Result<State, NormFault>
     ensures ok { IfOk result (λ s. IsFailedBelow part failure s) }
-    ensures err { IfErr result (λ h. h ≡ Fault Memory) }
+    ensures err { IfErr result (λ h. h ≡ Memory) }
 {
     let mut failure = failure;
     failure.path.push(part)?;
@@ -46,7 +45,7 @@ pub(crate) fn fail(
     purse: &mut Purse,
     frame: Frame,
     failure: Failure,
-) -> Result<State, Halt>
+) -> Result<State, NormFault>
     requires ready { IsReady (with_frame frame typer.old) (states.Failed failure) }
     ensures ok { IfOk result (λ s. Advances (with_frame frame typer.old) typer.new (states.Failed failure) s purse.old.left purse.new.left) }
     ensures err { IfErr result (λ h. Halts (with_frame frame typer.old) (states.Failed failure) purse.old.left h) }
@@ -78,7 +77,7 @@ pub(crate) fn fail(
         }
         Frame::CompletedType(_, _) => outwards(failure, 0),
         Frame::CompletedRecord(_, _) => outwards(failure, 1),
-        Frame::Completion => Ok(refuse(alloc, 53)),
+        Frame::Completion => Ok(refuse(alloc, rules::COMPLETION_HAS_NO_TYPE)),
         Frame::Used(_) => Ok(State::Failed(failure)),
     }
 }

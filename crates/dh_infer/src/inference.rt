@@ -21,7 +21,6 @@ ghost use Rattle.dh_infer.specs.Inside.TypeAnswers.{Answers, AnswersFault, limit
 ghost use Rattle.dh_infer.specs.declared.steps.Ending.TheVariants as endings;
 
 use crate::frames::{Failure, State, Typer};
-use crate::halts::Halt;
 use crate::loads::load;
 use crate::piles::Pile;
 use crate::steps::{Ending, run};
@@ -44,13 +43,11 @@ fn limit(fault: NormFault) -> TypeFault
     }
 }
 
-/// The fault of a typing that the machine ends.
-fn halted(halt: Halt) -> TypeFault
-    ensures { (units : ℕ) (e : CoreTree) → IsHalted (units, whole [] (lettered e)) halt → AnswersFault units e result }
+/// The fault of a typing that the machine ends at a limit.
+fn halted(fault: NormFault) -> TypeFault
+    ensures { (units : ℕ) (e : CoreTree) → IsHalted (units, whole [] (lettered e)) fault → AnswersFault units e result }
 {
-    match halt {
-        Halt::Fault(fault) => limit(fault),
-    }
+    limit(fault)
 }
 
 /// The fault of a typing that ends at a place that has no type.
@@ -99,7 +96,7 @@ pub(crate) fn type_nameless(alloc: Global, e: &Core, purse: &mut Purse) -> Resul
     match run(alloc, &mut typer, purse, State::Type(code)) {
         Ok(Ending::Typed(typed)) => written(alloc, &typer, purse, typed),
         Ok(Ending::Failed(failure)) => Err(refusal(failure)),
-        Err(halt) => Err(halted(halt)),
+        Err(fault) => Err(halted(fault)),
     }
 }
 

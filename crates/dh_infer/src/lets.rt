@@ -10,12 +10,11 @@ ghost use Rattle.dh_infer.specs.declared.frames.State.TheVariants as states;
 
 use crate::beginnings::refuse;
 use crate::frames::{Entry, Frame, State, Typer};
-use crate::halts::Halt;
 use crate::known::{Known, shared_normal};
 use crate::normals::normal_in_scope;
 use dh_store::CodeId;
-use dh_syntax::Purse;
-use dh_types::same;
+use dh_syntax::{NormFault, Purse};
+use dh_types::{rules, same};
 use std::alloc::Global;
 
 /// The value of a `let` without an annotation has a type.
@@ -40,7 +39,7 @@ pub(crate) fn let_annotation(
     body: CodeId,
     typed: CodeId,
     purse: &Purse,
-) -> Result<State, Halt>
+) -> Result<State, NormFault>
     requires ready { IsReady (with_frame (frames.LetAnnotation annotation value body) typer.old) (states.Typed typed) }
     ensures ok { IfOk result (λ s. Advances (with_frame (frames.LetAnnotation annotation value body) typer.old) typer.new (states.Typed typed) s purse.now.left purse.now.left) }
     ensures err { IfErr result (λ h. Halts (with_frame (frames.LetAnnotation annotation value body) typer.old) (states.Typed typed) purse.now.left h) }
@@ -58,7 +57,7 @@ pub(crate) fn let_value(
     body: CodeId,
     typed: CodeId,
     purse: &mut Purse,
-) -> Result<State, Halt>
+) -> Result<State, NormFault>
     requires ready { IsReady (with_frame (frames.LetValue annotation value body) typer.old) (states.Typed typed) }
     ensures ok { IfOk result (λ s. Advances (with_frame (frames.LetValue annotation value body) typer.old) typer.new (states.Typed typed) s purse.old.left purse.new.left) }
     ensures err { IfErr result (λ h. Halts (with_frame (frames.LetValue annotation value body) typer.old) (states.Typed typed) purse.old.left h) }
@@ -67,7 +66,7 @@ pub(crate) fn let_value(
     if same(alloc, &typer.codes, typed, wanted)? {
         Ok(State::Bind(value, body, 2))
     } else {
-        Ok(refuse(alloc, 9))
+        Ok(refuse(alloc, rules::LET_ANNOTATION))
     }
 }
 
@@ -80,7 +79,7 @@ pub(crate) fn bind(
     body: CodeId,
     part: u32,
     purse: &mut Purse,
-) -> Result<State, Halt>
+) -> Result<State, NormFault>
     requires ready { IsReady typer.old (states.Bind value body part) }
     requires known { (g : ℕ → Core) → Models typer.old.codes g → IsKnown g known.old }
     ensures ok { IfOk result (λ s. Advances typer.old typer.new (states.Bind value body part) s purse.old.left purse.new.left) }

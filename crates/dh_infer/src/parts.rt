@@ -4,7 +4,6 @@ ghost use Rattle.std.specs.Prelude.{◌≡◌, ◌<◌, ◌+◌, IfOk, IfErr};
 ghost use Rattle.dh_syntax.specs.declared.faults.NormFault.TheVariants.{Memory};
 ghost use Rattle.dh_store.specs.Cells.{code_core, AreCoded, AreKidsBelow};
 ghost use Rattle.dh_store.specs.Growth.{count};
-ghost use Rattle.dh_infer.specs.declared.halts.Halt.TheVariants.{Fault};
 ghost use Rattle.dh_infer.specs.Inside.Machine.{Advances, Halts, IsPlainNode, IsReady, with_frame};
 ghost use Rattle.dh_infer.specs.Inside.Scopes.{AreEntriesThere};
 ghost use Rattle.dh_infer.specs.Inside.Turns.{IsAnnotation, IsTurn, IsTurnOf, IsUntyped};
@@ -12,7 +11,6 @@ ghost use Rattle.dh_infer.specs.declared.frames.Frame.TheVariants as of_frames;
 ghost use Rattle.dh_infer.specs.declared.frames.State.TheVariants as states;
 
 use crate::frames::{Entry, Frame, State, Typer};
-use crate::halts::Halt;
 use crate::piles::Pile;
 use crate::sorts::is_sort;
 use dh_store::{CodeId, CodeKid, Codes};
@@ -91,11 +89,11 @@ fn turn_at(codes: &Codes, scope: &Pile<Entry>, code: CodeId, at: u32) -> Turn
 }
 
 /// The number of the part behind this one.
-fn next_number(at: u32) -> Result<u32, Halt>
+fn next_number(at: u32) -> Result<u32, NormFault>
     ensures ok { IfOk result (λ n. n ≡ at + 1) }
-    ensures err { IfErr result (λ h. h ≡ Fault Memory) }
+    ensures err { IfErr result (λ h. h ≡ Memory) }
 {
-    at.checked_add(1).ok_or(Halt::Fault(NormFault::Memory))
+    at.checked_add(1).ok_or(NormFault::Memory)
 }
 
 /// The parts of a node from a place on are typed, where those before it have these types.
@@ -105,7 +103,7 @@ pub(crate) fn next_part(
     code: CodeId,
     at: u32,
     types: Vec<CodeId>,
-) -> Result<State, Halt>
+) -> Result<State, NormFault>
     requires ready { IsReady typer.old (states.Parts code at types) }
     ensures ok { IfOk result (λ s. Advances typer.old typer.new (states.Parts code at types) s purse.now.left purse.now.left) }
     ensures err { IfErr result (λ h. Halts typer.old (states.Parts code at types) purse.now.left h) }
@@ -138,7 +136,7 @@ pub(crate) fn part_typed(
     at: u32,
     types: Vec<CodeId>,
     typed: CodeId,
-) -> Result<State, Halt>
+) -> Result<State, NormFault>
     requires ready { IsReady (with_frame (of_frames.Part code at types) typer.now) (states.Typed typed) }
     ensures ok { IfOk result (λ s. Advances (with_frame (of_frames.Part code at types) typer.now) typer.now (states.Typed typed) s purse.now.left purse.now.left) }
     ensures err { IfErr result (λ h. Halts (with_frame (of_frames.Part code at types) typer.now) (states.Typed typed) purse.now.left h) }

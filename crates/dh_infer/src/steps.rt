@@ -15,7 +15,6 @@ use crate::completions::{completed_record_typed, completed_type_typed, completio
 use crate::failing::fail;
 use crate::frames::{Failure, Frame, State, Typer};
 use crate::functions::{argument, function};
-use crate::halts::Halt;
 use crate::known::{Known, begin_unknown, remember, settled};
 use crate::lets::{bind, let_annotation, let_body, let_value, used, value};
 use crate::parts::{next_part, part_typed};
@@ -40,7 +39,7 @@ fn step_typed(
     known: &mut Known,
     typed: CodeId,
     frame: Frame,
-) -> Result<State, Halt>
+) -> Result<State, NormFault>
     requires ready { IsReady (with_frame frame typer.old) (states.Typed typed) }
     requires known { (g : ℕ → Core) → Models typer.old.codes g → IsKnown g known.old }
     ensures ok { IfOk result (λ s. Advances (with_frame frame typer.old) typer.new (states.Typed typed) s purse.old.left purse.new.left) }
@@ -49,7 +48,9 @@ fn step_typed(
 {
     match frame {
         Frame::Function(given) => function(typer, given, typed, purse),
-        Frame::Argument(called, given) => argument(alloc, typer, called, given, typed, purse),
+        Frame::Argument(called, given) => {
+            argument(alloc, typer, known, called, given, typed, purse)
+        },
         Frame::LambdaDomain(name, domain, body) => {
             lambda_domain(alloc, typer, known, name, domain, body, typed, purse)
         }
@@ -83,7 +84,7 @@ fn step_typed(
     }
 }
 
-/// So it is, and the type is kept where the frame waits for that of a code by itself.
+/// One step where a type was found for a frame, which was taken. The type is kept where the frame waits for that of a code by itself.
 fn step_found(
     alloc: Global,
     typer: &mut Typer,
@@ -91,7 +92,7 @@ fn step_found(
     known: &mut Known,
     typed: CodeId,
     frame: Frame,
-) -> Result<State, Halt>
+) -> Result<State, NormFault>
     requires ready { IsReady (with_frame frame typer.old) (states.Typed typed) }
     requires at_work { (root : Root) × IsAtWork root (with_frame frame typer.old) (states.Typed typed) purse.old.left }
     requires known { (g : ℕ → Core) → Models typer.old.codes g → IsKnown g known.old }
@@ -109,7 +110,7 @@ pub(crate) fn run(
     typer: &mut Typer,
     purse: &mut Purse,
     start: State,
-) -> Result<Ending, Halt>
+) -> Result<Ending, NormFault>
     requires ready { IsReady typer.old start }
     requires at_work { (root : Root) × IsAtWork root typer.old start purse.old.left }
     ensures ok { IfOk result (λ e. (root : Root) → IsAtWork root typer.old start purse.old.left → Ends root typer.new purse.new.left e) }
@@ -148,5 +149,5 @@ pub(crate) fn run(
             },
         }
     }
-    Err(Halt::Fault(NormFault::Memory))
+    Err(NormFault::Memory)
 }

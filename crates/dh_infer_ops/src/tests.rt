@@ -15,7 +15,7 @@ use dh_types::{Found, Step, constant};
 use std::alloc::{AllocError, Global};
 use std::test::Fail;
 
-/// The same normal form and the same universe for each part.
+/// What is known beside the types of a node's parts: one normal form and one universe for all parts.
 fn known(normal: Option<CodeId>, universe: Option<Option<Builtin>>) -> Found
     ensures there { (cs : Codes) → IfSome normal (λ c. c < count cs) → IsFoundThere cs result }
     ensures closed { (f : ℕ → Core) → IfSome normal (λ c. IsClosed (f c)) → IsFoundClosed f result }

@@ -1,6 +1,7 @@
 //! Whether a type mentions the variable of a binder above it.
 //!
-//! A code that stands below as many binders is looked at once, and what is still to be looked at is a stack on the heap.
+//! Most types are small: a walk over few codes tells it, and keeps nothing. Where it does not, a code that stands below as many
+//! binders is looked at once, and what is still to be looked at is a stack on the heap.
 
 ghost use Rattle.std.specs.Prelude.{◌≡◌, ℕ, true, IfOk, IfSome, OnOk};
 ghost use Rattle.std.specs.Option.{option_map};
@@ -95,8 +96,59 @@ fn go_on(
     }
 }
 
-/// Whether a code that stands below a binder mentions its variable.
-fn mentions(alloc: Global, codes: &Codes, id: CodeId) -> Result<bool, AllocError>
+/// How many codes, one inside the other, a walk that keeps nothing goes down. It recurses, so this bounds the stack that it takes.
+const MOST_DEPTH: u32 = 100;
+
+/// How many codes such a walk looks at. One that it meets again counts again, so this bounds what shared codes may cost.
+const MOST_CODES: u32 = 1000;
+
+/// Whether a code mentions the variable, if a walk so deep and over as many codes as are left tells it.
+#[cycle(walked)]
+fn walked(codes: &Codes, place: Pending, depth: u32, left: &mut u32) -> Option<bool>
+    requires coded { AreCoded codes.now }
+    ensures { IfSome result (λ v. v ≡ mentions place.level (code_core codes.now place.id)) }
+{
+    if depth == 0 || *left == 0 {
+        return None;
+    }
+    *left -= 1;
+    match form_of(codes, place.id) {
+        Seen::Bound(index) => Some(index == place.level),
+        Seen::Free(_, _) => Some(false),
+        Seen::Node(_, kids) => walked_row(codes, kids, place.level, depth - 1, left),
+    }
+}
+
+#[cycle(walked)]
+fn walked_row(
+    codes: &Codes,
+    kids: &[CodeKid],
+    level: u32,
+    depth: u32,
+    left: &mut u32,
+) -> Option<bool>
+    requires coded { AreCoded codes.now }
+    ensures { IfSome result (λ v. v ≡ mentions_row level (code_row (code_core codes.now) kids.now)) }
+{
+    for kid in kids {
+        let Some(level) = inner(level, kid) else {
+            return None;
+        };
+        let place = Pending {
+            id: kid.code,
+            level,
+        };
+        match walked(codes, place, depth, left) {
+            Some(true) => return Some(true),
+            Some(false) => {}
+            None => return None,
+        }
+    }
+    Some(false)
+}
+
+/// Whether a code that stands below a binder mentions its variable, each code below as many binders looked at once.
+fn searched(alloc: Global, codes: &Codes, id: CodeId) -> Result<bool, AllocError>
     requires coded { AreCoded codes.now }
     ensures { IfOk result (λ v. v ≡ mentions 0 (code_core codes.now id)) }
 {
@@ -113,6 +165,18 @@ fn mentions(alloc: Global, codes: &Codes, id: CodeId) -> Result<bool, AllocError
         }
     }
     Err(AllocError)
+}
+
+/// Whether a code that stands below a binder mentions its variable.
+fn mentions(alloc: Global, codes: &Codes, id: CodeId) -> Result<bool, AllocError>
+    requires coded { AreCoded codes.now }
+    ensures { IfOk result (λ v. v ≡ mentions 0 (code_core codes.now id)) }
+{
+    let mut left = MOST_CODES;
+    match walked(codes, Pending { id, level: 0 }, MOST_DEPTH, &mut left) {
+        Some(mentions) => Ok(mentions),
+        None => searched(alloc, codes, id),
+    }
 }
 
 /// A code that stands below a binder, seen from outside, where it does not mention the variable of the binder: itself, since it

@@ -1,4 +1,23 @@
-//! The numbers of the rules of typing, which the program prints.
+//! The numbers of the rules of typing, which the program prints. A rule has its name of the definitions
+//! (`dh_syntax/specs/Typing/TypeRules`).
+
+pub const UNBOUND_VARIABLE: u8 = 1;
+
+pub const SORT_HAS_NO_TYPE: u8 = 2;
+
+pub const LAMBDA_DOMAIN: u8 = 3;
+
+pub const LAMBDA_BODY: u8 = 4;
+
+pub const FORALL_DOMAIN: u8 = 5;
+
+pub const FORALL_RANGE: u8 = 6;
+
+pub const NO_FUNCTION: u8 = 7;
+
+pub const WRONG_ARGUMENT: u8 = 8;
+
+pub const LET_ANNOTATION: u8 = 9;
 
 pub const CONDITION_NO_BOOL: u8 = 10;
 
@@ -86,6 +105,10 @@ pub const SIDES_NOT_IN_TYPE: u8 = 51;
 
 pub const ANNOTATION_DIFFERS: u8 = 52;
 
+pub const COMPLETION_HAS_NO_TYPE: u8 = 53;
+
 pub const UPDATE_NO_RECORD: u8 = 54;
 
 pub const UPDATE_OF_SORT: u8 = 55;
+
+pub const NOT_RESOLVED: u8 = 56;

@@ -154,7 +154,7 @@ abbrev pub failing : {T : Type 0} → List ℕ → Rule → Inference T
 failing [] rule = Fails rule
 failing (k ∷ path) rule = FromPart k (failing path rule) (λ t. Gives t)
 
--- what is kept is what the inference comes to, whatever it costs
+-- what is kept, if anything is, is what the inference comes to, whatever it costs
 abbrev pub IsKept : {T : Type 0} → Lang T → Inference T → Kept T → Type 0
 IsKept L j (Is t) = (n : ℕ) × ComesTo L n j (Has t 0)
 IsKept L j (At path rule) = IsRefused L j path rule
@@ -206,12 +206,12 @@ module _ {T : Type 0} (L : Lang T) (wide deep : T → Type 0) where
 
 -- ---- the laws
 
--- a normaliser of expressions with values that takes no more than the plain count
+-- a normaliser of expressions with values, of which none is `Sort`, that takes no more than the plain count
 abbrev pub IsNormaliser : (ℕ → Coded Name → Answer (Coded Name)) → Type 0
 IsNormaliser normal =
     (units : ℕ) (d : Coded Name) → Sortless d → NormalLag cores (IsWideLicensed cores nesting) (IsDeepLicensed cores nesting) embed units (meaning d) (normal units d)
 
--- with so much depth or more, what is kept of each value in each context is right
+-- with more than so much depth, what is kept of each value in each context, if anything is, is right
 abbrev pub AreKept : ℕ → (Context Ref Name → Core → Kept Core) → Type 0
 AreKept more kept = (depth : ℕ) (c : Context Ref Name) (v : Core) → IsKept cores (typings.typing core_scopes (suc (depth + more)) c v) (kept c v)
 
@@ -221,8 +221,8 @@ judged_kept normal more kept depth c units d =
     judged normal purse_aside units
     (kept_typing (λ b. option_map to_core (type_of b)) (λ x. x) (λ i k v. answer (kept k v) (typings.typing core_scopes (suc (i + more)) k v)) depth c d)
 
--- Typing the body of a `let` with the value in the context, each use of which answers what is kept of it, is typing the body
--- in which the value is put for the variable, for no more units.
+-- The body of a `let` is typed with the value in the context, each use of which answers what is kept of it. Each answer may be given
+-- for the body with the value put for the variable: a type, for no more units, a refusal, or a limit.
 abbrev pub Substitution : Type 0
 Substitution =
     (normal : ℕ → Coded Name → Answer (Coded Name)) (more : ℕ) (kept : Context Ref Name → Core → Kept Core) → IsNormaliser normal → AreKept more kept
@@ -230,7 +230,8 @@ Substitution =
     → TypingLag cores (IsWideLicensed cores nesting) (IsDeepLicensed cores nesting) purse_aside embed units
     (typings.typing core_scopes (depth + more) c (sub (first v) b)) (judged_kept normal more kept depth c units (cell_sub (held v) (embed b)))
 
--- What may be answered for the typing of e in the context with so many units, with the type's names kept.
+-- What may be answered for the typing of e in the context with so many units, with the type's names kept. With too little depth
+-- nothing is said.
 abbrev pub MayAnswer : Context Var Name → ℕ → Term → Judgment (Coded Name) → Type 0
 MayAnswer c units e (Has t left) = (v : Term) × (t ≡ embed (core_below (names_of c) v)) × (extra : ℕ) × Infers c (units + extra) e (Has v left)
 MayAnswer c units e (Ill path rule) = IsIll c e path (rule_number rule)
@@ -240,8 +241,8 @@ MayAnswer c units e IsOver = IsTypeFault c units e fault.Spent
 MayAnswer c units e IsOverAside = IsTypeFault c units e fault.Spent
 MayAnswer c units e IsShallow = ⊤
 
--- Where d stands for e, its values put in, a typing that uses what is kept, over a normaliser that takes no more than the
--- plain count, answers only what may be answered for e, for at most its units.
+-- A typing of d, which stands for e with its values put in, uses what is kept, over a normaliser that takes no more than the plain
+-- count. It answers only what may be answered for e, for at most its units.
 abbrev pub KeptTyping : Type 0
 KeptTyping =
     (normal : ℕ → Coded Name → Answer (Coded Name)) (more : ℕ) (kept : Context Ref Name → Core → Kept Core) → IsNormaliser normal → AreKept more kept

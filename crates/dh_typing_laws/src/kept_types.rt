@@ -1,14 +1,15 @@
 //! Laws of typing that keeps the types of values.
 ghost use Rattle.dh_typing_laws.specs.KeptTypes.{Substitution, KeptTyping, KeptBelow, KeptDeeper};
 
-/// Substitution: typing the body of a `let` with what is kept of the value at each use of the variable is typing the body in
-/// which the value is put for the variable, for no more units.
+/// Substitution: the body of a `let` is typed with what is kept of the value at each use of the variable. Each answer may be given for
+/// the body with the value put for the variable: a type, for no more units, a refusal, or a limit. The normaliser takes no more than
+/// the plain count, and what is kept is right. With too little depth nothing is said.
 pub fn substitution()
     ensures { Substitution }
 {}
 
-/// A typing that keeps types, over a normaliser that takes no more than the plain count, answers only what may be answered for
-/// the expression, for at most its units.
+/// A typing uses what is kept of values, which is right, over a normaliser that takes no more than the plain count. It answers only
+/// what may be answered for the expression, for at most its units. With too little depth nothing is said.
 pub fn kept_typing()
     ensures { KeptTyping }
 {}

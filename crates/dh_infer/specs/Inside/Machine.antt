@@ -23,8 +23,7 @@ use Rattle.dh_infer.specs.declared.frames.Frame.TheVariants as frames
 use Rattle.dh_infer.specs.declared.frames.State.{State}
 use Rattle.dh_infer.specs.declared.frames.State.TheVariants as states
 use Rattle.dh_infer.specs.declared.frames.Typer.{Typer}
-use Rattle.dh_infer.specs.declared.halts.Halt.{Halt}
-use Rattle.dh_infer.specs.declared.halts.Halt.TheVariants as halts
+use Rattle.dh_syntax.specs.declared.faults.NormFault.{NormFault}
 use Rattle.dh_infer.specs.Inside.Debts.{whole, Meets, AreUniverses, Debt, Part, Beside, Replaced, Used, Root, Comes, Goes}
 use Rattle.dh_types.specs.Binding.{bound_in}
 use Rattle.dh_infer.specs.Inside.Levels.{IsOf, IsOfBelow}
@@ -209,14 +208,14 @@ pub record Advances (old new : Typer) (s t : State) (units left : ℕ) : Type 0 
   pub works : (g : ℕ → Core) → Models new.codes g → (root : Root) → Works g root old s units → Works g root new t left
 
 -- what a fault answers
-abbrev pub IsHalted : Root → Halt → Type 0
-IsHalted root (halts.Fault faults.Wide) = Meets root.0 root.1 IsWide
-IsHalted root (halts.Fault faults.Deep) = Meets root.0 root.1 IsDeep
-IsHalted root (halts.Fault faults.Spent) = Meets root.0 root.1 IsOver ⊎ Meets root.0 root.1 IsOverAside
-IsHalted root (halts.Fault faults.Memory) = Unit {0}
+abbrev pub IsHalted : Root → NormFault → Type 0
+IsHalted root faults.Wide = Meets root.0 root.1 IsWide
+IsHalted root faults.Deep = Meets root.0 root.1 IsDeep
+IsHalted root faults.Spent = Meets root.0 root.1 IsOver ⊎ Meets root.0 root.1 IsOverAside
+IsHalted root faults.Memory = Unit {0}
 
 -- the machine was at work, and ends with a fault
-abbrev pub Halts : Typer → State → ℕ → Halt → Type 0
+abbrev pub Halts : Typer → State → ℕ → NormFault → Type 0
 Halts old s units halt = (g : ℕ → Core) → Models old.codes g → (root : Root) → Works g root old s units → IsHalted root halt
 
 -- the state says that the rule with this number fails at the expression itself

@@ -5,12 +5,11 @@ use Rattle.dh_syntax.specs.Names.Nameless.{Core}
 use Rattle.dh_syntax.specs.Normalising.NamelessRuns.{cores}
 use Rattle.dh_syntax.specs.Normalising.Normal.{IsLicensed}
 use Rattle.dh_norm.specs.References.{Apart, opened}
-use Rattle.dh_infer.specs.declared.halts.Halt.{Halt}
-use Rattle.dh_infer.specs.declared.halts.Halt.TheVariants as halts
+use Rattle.dh_syntax.specs.declared.faults.NormFault.{NormFault}
 
 -- each reference of it is that of an expression of the program
 abbrev pub Within : Apart → Core → Type 0
 Within s e = (d : Core) × (e ≡ opened s d)
 
-abbrev pub IsLicensedHalt : ℕ → Core → Halt → Type 0
-IsLicensedHalt units e (halts.Fault f) = IsLicensed cores nesting units e f
+abbrev pub IsLicensedHalt : ℕ → Core → NormFault → Type 0
+IsLicensedHalt units e f = IsLicensed cores nesting units e f

@@ -6,8 +6,8 @@ use Rattle.dh_infer.proofs.Modelled.{models-itself}
 use Rattle.dh_infer.proofs.Remembering.{sharing-kept}
 use Rattle.dh_infer.proofs.known.known_form.Goals as goal
 
-pub new_form-requires-clause-there : goal.new_form-requires-clause-there
-new_form-requires-clause-there c =
+pub seen_form-requires-clause-there : goal.seen_form-requires-clause-there
+seen_form-requires-clause-there c =
     let cs = c.args.codes.now in
     let g = code_core cs in
     let m = models-itself cs in
@@ -15,8 +15,8 @@ new_form-requires-clause-there c =
     let l = c.requires.there in
     omega (arith, o, l)
 
-pub new_form-requires-clause-known : goal.new_form-requires-clause-known
-new_form-requires-clause-known c = λ g m.
+pub seen_form-requires-clause-known : goal.seen_form-requires-clause-known
+seen_form-requires-clause-known c = λ g m.
     let k = c.requires.known g m in
     sharing-kept g c.args.known.now c.first.new.self k (c.in_ok-number.ensures.shared g m k.shared)
 
@@ -34,13 +34,13 @@ returns-in-Some-clause-ok c =
 
 pub returns-in-None-clause-ok : goal.returns-in-None-clause-ok
 returns-in-None-clause-ok c =
-    IfOk-weaker c.new_form.result _ _
-    (λ k n. form-found c.args.codes.now c.args.code c.in_ok-number.number (λ g m. c.in_ok-number.ensures.ok g m (c.requires.known g m).shared) c.new_form.new.codes c.args.purse.now.left c.new_form.new.purse.left k
-    c.new_form.ensures.grows n)
-    c.new_form.ensures.ok
+    IfOk-weaker c.seen_form.result _ _
+    (λ k n. form-found c.args.codes.now c.args.code c.in_ok-number.number (λ g m. c.in_ok-number.ensures.ok g m (c.requires.known g m).shared) c.seen_form.new.codes c.args.purse.now.left c.seen_form.new.purse.left k
+    c.seen_form.ensures.grows n)
+    c.seen_form.ensures.ok
 
 pub returns-in-None-clause-err : goal.returns-in-None-clause-err
 returns-in-None-clause-err c =
-    IfErr-weaker c.new_form.result _ _
+    IfErr-weaker c.seen_form.result _ _
     (λ h s. form-stopped c.args.codes.now c.args.code c.in_ok-number.number (λ g m. c.in_ok-number.ensures.ok g m (c.requires.known g m).shared) c.args.purse.now.left h s)
-    c.new_form.ensures.err
+    c.seen_form.ensures.err

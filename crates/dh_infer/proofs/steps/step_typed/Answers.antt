@@ -4,9 +4,6 @@ use Rattle.dh_infer.proofs.steps.step_typed.Goals as goal
 pub returns-in-Function-clause-known : goal.returns-in-Function-clause-known
 returns-in-Function-clause-known c = keeps_ok _ _ _ _ _ c.args.known.now c.function.result c.function.ensures.ok c.requires.known
 
-pub returns-in-Argument-clause-known : goal.returns-in-Argument-clause-known
-returns-in-Argument-clause-known c = keeps_ok _ _ _ _ _ c.args.known.now c.argument.result c.argument.ensures.ok c.requires.known
-
 pub returns-in-ForallRange-clause-known : goal.returns-in-ForallRange-clause-known
 returns-in-ForallRange-clause-known c = keeps_ok _ _ _ _ _ c.args.known.now c.forall_range.result c.forall_range.ensures.ok c.requires.known
 
