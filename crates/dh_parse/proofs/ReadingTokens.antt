@@ -5,12 +5,12 @@ use Rattle.dh_syntax.specs.Limits.{most_open}
 use Rattle.dh_syntax.specs.declared.faults.ParseFault.TheVariants as faults
 use Rattle.dh_syntax.specs.declared.tokens.Token.{Token}
 use Rattle.dh_syntax.specs.declared.tokens.TokenKind.TheVariants as kinds
-use Rattle.dh_frames.specs.States.{state_of}
-use Rattle.dh_frames.specs.declared.counted.Frames.{Frames}
-use Rattle.dh_frames.specs.declared.places.Held.{Held}
-use Rattle.dh_frames.specs.declared.places.Top.{Top}
-use Rattle.dh_frames.specs.declared.places.Top.TheVariants.{Need, Have, Wait, Done}
-use Rattle.dh_frames.specs.declared.places.Wait.{Wait as Waiting}
+use Rattle.dh_reader.specs.States.{state_of}
+use Rattle.dh_reader.specs.declared.frames.stack.Frames.{Frames}
+use Rattle.dh_reader.specs.declared.tops.Held.{Held}
+use Rattle.dh_reader.specs.declared.tops.Top.{Top}
+use Rattle.dh_reader.specs.declared.tops.Top.TheVariants.{Need, Have, Wait, Done}
+use Rattle.dh_reader.specs.declared.tops.Wait.{Wait as Waiting}
 use Rattle.dh_grammar.proofs.Results.Ending.{end_ends}
 use Rattle.dh_grammar.proofs.Results.ReadingSteps as law
 use Rattle.dh_grammar.specs.Depths.{Within, opens_many}

@@ -1,7 +1,7 @@
 //! From text to expressions: the parser of the whole grammar (`dhall.abnf`).
 //!
-//! `parse` reads the tokens of a text one at a time and never looks ahead: `after` takes the state (the frames and what
-//! stands above them, of `dh_frames`) over one token, as the machine of the grammar does (`Machine` in `dh_grammar`).
+//! `parse` reads the tokens of a text one at a time and never looks ahead: `after` takes the reader (of `dh_reader`) over one
+//! token, as the machine of the grammar does (`Machine` in `dh_grammar`).
 //! The functions within do what the machine's functions do; the clauses of `parse` speak of the definition of spelling
 //! alone. `parse_imports` and `parse_spans` answer the same expression or fault, with the places of its imports or of all
 //! its nodes.
@@ -11,7 +11,6 @@
 mod gap_tests;
 mod placed;
 mod reading;
-mod steps;
 #[cfg(test)]
 mod tests;
 mod texts;

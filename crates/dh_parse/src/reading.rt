@@ -1,7 +1,7 @@
 //! The loop over the tokens of a text.
 ghost use Rattle.std.specs.Prelude.{◌≡◌, ◌<◌, ◌^◌, [], length, not, ◌||◌, IfOk, IfErr};
-ghost use Rattle.dh_frames.specs.Stacks.{stack_of};
-ghost use Rattle.dh_frames.specs.States.{state_of};
+ghost use Rattle.dh_reader.specs.Stacks.{stack_of};
+ghost use Rattle.dh_reader.specs.States.{state_of};
 ghost use Rattle.dh_grammar.specs.Depths.{Within, opens_many};
 ghost use Rattle.dh_grammar.specs.Ends.{EndsLast};
 ghost use Rattle.dh_grammar.specs.Machine.{need, gap_at};
@@ -10,12 +10,12 @@ ghost use Rattle.dh_parse.specs.Answers.{IsFault};
 ghost use Rattle.dh_parse.specs.Inside.Steps.{Reads, Refuses};
 ghost use Rattle.dh_syntax.specs.declared.tokens.TokenKind.TheVariants as kinds;
 
-use crate::steps::after;
-use dh_frames::{Frames, Stop, Top, gap_at};
 use dh_making::Makes;
+use dh_reader::{Frames, Reader, Stop, Top, gap_at};
 use dh_syntax::{MOST_OPEN, Mark, ParseFault, Token, TokenKind};
 use dh_tokens::Tokens;
 use std::alloc::Global;
+use std::mem::drop;
 
 /// Whether the token has the white space before it that it needs.
 fn has_gap<M: Makes>(frames: &Frames<M>, place: &Top<M>, kind: &TokenKind, gap: bool) -> bool
@@ -75,16 +75,10 @@ fn opens_many<M: Makes>(frames: &Frames<M>, place: &Top<M>, kind: &TokenKind) ->
 }
 
 /// One token read, with the white space that it needs before it.
-fn step<M: Makes>(
-    alloc: Global,
-    at: u32,
-    frames: &mut Frames<M>,
-    place: Top<M>,
-    token: Token,
-) -> Result<Top<M>, ParseFault>
-    requires { Within (state_of M.views frames.old place) }
-    ensures read { IfOk result (λ p. Reads M.makes at (state_of M.views frames.old place) token (state_of M.views frames.new p)) }
-    ensures fault { IfErr result (Refuses M.makes at (state_of M.views frames.old place) token) }
+fn step<M: Makes>(reader: &mut Reader<M>, place: Top<M>, token: Token) -> Result<Top<M>, ParseFault>
+    requires { Within (state_of M.views reader.old.frames place) }
+    ensures read { IfOk result (λ p. Reads M.makes reader.old.at (state_of M.views reader.old.frames place) token (state_of M.views reader.new.frames p)) }
+    ensures fault { IfErr result (Refuses M.makes reader.old.at (state_of M.views reader.old.frames place) token) }
 {
     let Token {
         kind,
@@ -92,13 +86,15 @@ fn step<M: Makes>(
         to: _,
         gap,
     } = token;
-    if !has_gap(frames, &place, &kind, gap) {
+    if !has_gap(&reader.frames, &place, &kind, gap) {
+        drop((place, kind));
         return Err(ParseFault::Syntax(from));
     }
-    let is_deep = opens_many(frames, &place, &kind);
-    match after(alloc, at, frames, place, kind) {
+    let is_deep = opens_many(&reader.frames, &place, &kind);
+    match reader.after(place, kind) {
         Ok(next) => {
             if is_deep {
+                drop(next);
                 return Err(ParseFault::TooNested);
             }
             Ok(next)
@@ -115,11 +111,12 @@ pub fn read<M: Makes>(alloc: Global, tokens: Tokens) -> Result<M::Tree, ParseFau
     ensures ok { IfOk result (λ x. reading_at M.makes 0 (need []) tokens ≡ accepted (M.views.tree x)) }
     ensures fault { IfErr result (IsFault (reading_at M.makes 0 (need []) tokens)) }
 {
-    let mut frames: Frames<M> = Frames::new(alloc);
+    let mut reader: Reader<M> = Reader::new(alloc);
     let mut place: Top<M> = Top::Need;
     let mut at = 0;
     for token in tokens.into_vec() {
-        match step(alloc, at, &mut frames, place, token) {
+        reader.at = at;
+        match step(&mut reader, place, token) {
             Ok(next) => place = next,
             Err(fault) => return Err(fault),
         }

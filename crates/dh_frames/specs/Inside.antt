@@ -1,2 +1,0 @@
--- Words that only private functions cite.
-pub mod Joins

@@ -1,6 +1,0 @@
-pub mod Closings
-pub mod Counting
-pub mod Frames
-pub mod Inside
-pub mod Stacks
-pub mod States

@@ -1,0 +1,6 @@
+pub mod Arguing
+pub mod Closes
+pub mod DepthCounts
+pub mod Ending
+pub mod Following
+pub mod Nexts

@@ -1,0 +1,6 @@
+-- Words that only private functions cite.
+pub mod Ends
+pub mod Joins
+pub mod Newest
+pub mod Nexts
+pub mod Tokens

@@ -1,0 +1,10 @@
+//! Tokens where an operand begins, and behind one.
+
+mod arguments;
+mod beginning;
+mod extending;
+mod levels;
+mod operators;
+
+pub use beginning::begin;
+pub use extending::extend;

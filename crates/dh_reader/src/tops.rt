@@ -1,0 +1,117 @@
+//! What stands above the frames.
+ghost use Rattle.std.specs.Prelude.{◌≡◌};
+ghost use Rattle.dh_reader.specs.declared.tops.Held.TheVariants as helds;
+ghost use Rattle.dh_reader.specs.declared.tops.Top.TheVariants as tops;
+
+use dh_making::{EntryKey, Keys, Makes, Projection, Source, Word};
+use dh_syntax::{Digest, TextForm};
+
+/// What an import asks for, with its digest.
+#[derive(Drop)]
+pub struct Imported {
+    pub source: Source,
+    pub digest: Option<Digest>,
+}
+
+/// An operand whose last token may be followed by more of it.
+#[derive(Drop)]
+pub enum Held<M: Makes> {
+    /// A name, which may take an index
+    Named(Word),
+    /// An import, which may take a digest and `as`
+    Imported(Imported),
+    Ready(M::Tree),
+}
+
+/// What stands between the opening of a text and an interpolation, or between two.
+#[derive(Drop)]
+pub enum Front<M: Makes> {
+    Opening,
+    Behind(M::Chunks, M::Tree),
+}
+
+/// Where a token of a production is awaited that is no part's. A `bool` beside the parts so far says whether a comma
+/// or a bar stands before the first of them.
+#[derive(Drop)]
+pub enum Wait<M: Makes> {
+    /// `λ`, or `∀` where it is no lambda
+    Quantifier(bool),
+    /// `λ(`
+    Quantified(bool),
+    /// `λ(word`
+    Quantity(bool, Word),
+    /// `λ(word : domain)`
+    Domained(bool, Word, M::Tree),
+    /// `assert`
+    Asserting,
+    /// Bindings so far, `let`
+    Letting(Option<M::Lets>),
+    /// Bindings so far, `let word`
+    Lettered(Option<M::Lets>, Word),
+    /// `whole with`
+    WithStart(M::Tree),
+    /// `whole with keys`
+    WithKeys(M::Tree, Keys),
+    /// `whole with keys.`
+    WithDot(M::Tree, Keys),
+    /// `word@`
+    Indexed(Word),
+    /// An import, `as`
+    Moded(Imported),
+    /// `whole.`
+    Dotted(M::Tree),
+    /// `whole.{`
+    Projecting(M::Tree, bool),
+    /// `whole.{ keys`
+    Projected(M::Tree, bool, Projection),
+    /// `whole.{ keys,`
+    ProjectedComma(M::Tree, bool, Projection),
+    /// `[ ]`
+    Empty(bool),
+    /// `<`
+    UnionStart(bool),
+    /// `<` and the alternatives so far, `key`
+    Alternative(bool, Option<M::Alternatives>, EntryKey),
+    /// `<` and the alternatives so far, `|`
+    AlternativeBar(bool, M::Alternatives),
+    /// `{`
+    RecordStart(bool),
+    /// `{ =`, and whether a comma stands behind
+    RecordEquals(bool, bool),
+    /// `{` and the fields so far, `,`
+    FieldComma(bool, M::Fields),
+    /// `{` and the fields so far, `key`
+    FieldKey(bool, M::Fields, EntryKey),
+    /// `{` and the entries so far, `,`
+    EntryComma(bool, M::Entries),
+    /// `{` and the entries so far, `keys`; the first key of a record may yet be a field's
+    EntryKeys(bool, Option<M::Entries>, Keys),
+    /// `{` and the entries so far, `keys.`
+    EntryDot(bool, Option<M::Entries>, Keys),
+    /// A text up to where a piece may stand
+    TextFront(TextForm, Front<M>),
+    /// A text up to a piece
+    TextPiece(TextForm, M::Chunks),
+}
+
+/// What stands above the frames.
+#[derive(Drop)]
+pub enum Top<M: Makes> {
+    /// An operand or an expression begins.
+    Need,
+    /// An operand has been read.
+    Have(Held<M>),
+    /// A token of a production is awaited.
+    Wait(Wait<M>),
+    /// The text has ended.
+    Done(M::Tree),
+}
+
+impl<M: Makes> Top<M> {
+    /// An operand that takes no more tokens of its own.
+    pub(crate) fn ready(operand: M::Tree) -> Top<M>
+        ensures { result ≡ tops.Have (helds.Ready operand) }
+    {
+        Top::Have(Held::Ready(operand))
+    }
+}

@@ -1,3 +1,0 @@
--- Words that only private functions cite.
-pub mod Nexts
-pub mod Tokens
