@@ -1,99 +1,78 @@
--- The digests behind the imports of an expression, part by part.
-use Rattle.std.specs.Prelude.{◌≡◌, ◌<◌, ◌≤◌, ℕ, zero, suc, ◌+◌, ◌++◌, ◌&&◌, Bool, true, false, if◌then◌else◌, List, [], ◌∷◌, length, drop, replicate, Option, Some, None, is_none, refl}
+-- The digests behind the imports of an expression are those of the keys that the walk writes.
+use Rattle.std.specs.Prelude.{◌≡◌, ◌≤◌, ◌-◌, ℕ, zero, suc, ◌++◌, ◌&&◌, Bool, true, false, if◌then◌else◌, List, [], ◌∷◌, length, drop, take, map, replicate, Option, Some, None, is_none, IfSome, IsSome, slice_set, refl}
 use Rattle.std.specs.Option.{option_map}
-use Rattle.std.proofs.Common.{ap, sym, ◌∙◌, subst, arith, get_or, append_assoc, append-nil}
-use Rattle.std.proofs.lemmas.List.{replicate-append-replicate, map-append}
-use Rattle.dh_syntax.specs.declared.expressions.Expr.{Expr}
-use Rattle.dh_syntax.specs.declared.expressions.Expr.TheVariants as expr
-use Rattle.dh_syntax.specs.declared.expressions.Kid.{Kid}
-use Rattle.dh_syntax.specs.declared.expressions.Op.{Op}
+use Rattle.std.proofs.Common.{ap, sym, ◌∙◌, subst, arith, append_assoc, length-append}
+use Rattle.std.proofs.Math.Seq.{set-append_seam, take-append_seam}
+use Rattle.std.proofs.lemmas.List.{length-replicate, replicate-append-replicate, map-append, length-drop, length-map}
+use Rattle.std.proofs.lemmas.List.Elements.{All-nil, All-cons}
 use Rattle.dh_syntax.specs.declared.locations.Digest.{Digest}
 use Rattle.dh_syntax.specs.declared.locations.Import.{Import}
 use Rattle.dh_syntax.specs.declared.locations.Key.{Key}
+use Rattle.dh_imports.specs.declared.outcomes.Blame.{Blame}
 use Rattle.dh_imports.specs.declared.outcomes.Outcome as program
 use Rattle.dh_imports.specs.declared.outcomes.Outcome.TheVariants as variants
 use Rattle.dh_imports.specs.declared.outcomes.Why.TheVariants as whys
-use Rattle.dh_syntax.specs.Expressions.Bridge.{term, row_of}
+use Rattle.dh_syntax.specs.Expressions.Bridge.{term}
 use Rattle.dh_syntax.specs.Expressions.Tree.{Row as Parts, Leaf, Node, end, kid, Name, Var, Term}
 use Rattle.dh_imports.specs.Freezing.{takes_content, digest_behind, goes_on, own_digest, digests_behind, digests_behind_row}
-use Rattle.dh_syntax.specs.Imports.Keys.{chained}
+use Rattle.dh_syntax.specs.Imports.Keys.{chained, key_eq}
 use Rattle.dh_syntax.specs.Bytes.Digests.{digest_of}
 use Rattle.dh_imports.specs.Outcomes.{Outcome, plain, of_blame}
-use Rattle.dh_imports.specs.Walk.{Form, importing, choosing, other, form_of, Walked, Ready, Fails, Turns, Needs, allowed, by_outcome, is_sane, walk, walk_key, keys_of_form, keys_of, keys_of_row}
-use Rattle.dh_syntax.proofs.Bridge.{at_term-Var, at_term-Node}
-use Rattle.dh_syntax.proofs.Rows.{row_of-drop_item, row_of-drop_all}
+use Rattle.dh_imports.specs.Walk.{Form, importing, choosing, other, form_of, Walked, Ready, Fails, Turns, Needs, allowed, by_outcome, is_sane, walk, walk_key}
 use Rattle.dh_laws.proofs.KeyOrder.{some-equal}
 use Rattle.dh_demand.specs.declared.scans.Edge.{Edge}
 use Rattle.dh_demand.specs.declared.ends.Next.{Next}
 use Rattle.dh_demand.specs.declared.ends.Next.TheVariants as next
-use Rattle.dh_demand.specs.declared.parts.Part.TheVariants as part
-use Rattle.dh_demand.specs.Digests.{value_digest, known_digest, digest_at, digests_at}
-use Rattle.dh_demand.specs.Results.{Row, key_at, ask_of}
-use Rattle.dh_demand.specs.Scans.{IsEdge, Begins, own_imports, imports, imports_of_parts}
+use Rattle.dh_demand.specs.Digests.{known_digest, digest_at, digests_at, HasValue, HaveValues}
+use Rattle.dh_demand.specs.Results.{Row, key_at, number_of, ask_of}
+use Rattle.dh_demand.specs.Scans.{IsEdge, own_imports, imports, imports_of_parts}
 use Rattle.dh_demand.specs.Nexts.{IsNext}
-use Rattle.dh_demand.specs.Inside.Going as going
-use Rattle.dh_demand.specs.Inside.Here.{is_ready}
-use Rattle.dh_demand.specs.Inside.Parts.{part_of}
-use Rattle.dh_demand.specs.Inside.Walking.{after}
-use Rattle.dh_demand.proofs.Edges.{begins_at_item, count-keys}
-use Rattle.dh_demand.proofs.Nexting.{imported, chosen, others, two_kids, SoFar}
+use Rattle.dh_demand.specs.Inside.Frozen.{takes, frozen, put, freezing}
+use Rattle.dh_demand.specs.Inside.Seen.{form_by, chooses, begins, own_key, seen, seen_row, written}
 use Rattle.dh_demand.proofs.Numbers.{stands}
+use Rattle.dh_demand.proofs.Seeing.{seen-length}
 use Rattle.dh_demand.proofs.Visiting.{Blamed, fault, looped, blamed}
 
--- ---- whether the walk goes on
+-- what has no number has no outcome
+unasked : (rows : List Row) (k : Key) → number_of rows k ≡ None → ask_of rows k ≡ None
+unasked [] k h = refl
+unasked (r ∷ rs) k h = go (key_eq r.0 k) (λ e. unasked rs k e) h
+  where
+    later : (o : Option ℕ) → option_map suc o ≡ None → o ≡ None
+    later None h = refl
+    later (Some n) h = let e : ⊥ = cc in absurd e
 
-pub ready-true : (n : Next) → n ≡ next.Ready → is_ready n ≡ true
-ready-true n h = ap is_ready h
-
-pub ready-false : (n : Next) → (n ≡ next.Ready → ⊥) → is_ready n ≡ false
-ready-false next.Ready h = absurd (h refl)
-ready-false (next.Need m) h = refl
-ready-false (next.Fault e) h = refl
-
-abbrev has_value : {X : Type 0} → Walked X → Bool
-has_value (Ready x) = true
-has_value (Fails b) = false
-has_value (Turns j) = false
-has_value (Needs k) = false
-
-ready_is : {X : Type 0} (rows : List Row) (w : Walked X) (n : Next) → IsNext None rows w n → is_ready n ≡ has_value w
-ready_is rows (Ready x) next.Ready h = refl
-ready_is rows (Ready x) (next.Need m) h = absurd h
-ready_is rows (Ready x) (next.Fault e) h = absurd h
-ready_is rows (Fails b) next.Ready h = absurd h
-ready_is rows (Fails b) (next.Need m) h = absurd h
-ready_is rows (Fails b) (next.Fault e) h = refl
-ready_is rows (Turns j) next.Ready h = absurd h
-ready_is rows (Turns j) (next.Need m) h = absurd h
-ready_is rows (Turns j) (next.Fault e) h = refl
-ready_is rows (Needs k) next.Ready h = absurd h
-ready_is rows (Needs k) (next.Need m) h = refl
-ready_is rows (Needs k) (next.Fault e) h = absurd h
-
-value_after : (w : Walked (Unit {0})) (v : Walked Term) → has_value (after w v) ≡ has_value w && goes_on other v
-value_after (Ready x) (Ready y) = refl
-value_after (Ready x) (Fails b) = refl
-value_after (Ready x) (Turns j) = refl
-value_after (Ready x) (Needs k) = refl
-value_after (Fails b) v = refl
-value_after (Turns j) v = refl
-value_after (Needs k) v = refl
-
-ready_after : (rows : List Row) (w : Walked (Unit {0})) (v : Walked Term) (m n : Next) → IsNext None rows w m → IsNext None rows (after w v) n → is_ready n ≡ is_ready m && goes_on other v
-ready_after rows w v m n h k = ready_is rows (after w v) n k ∙ value_after w v ∙ ap (λ b. b && goes_on other v) (sym (ready_is rows w m h))
-
-pub goes_on_alike : (v : Walked Term) → going.goes_on v ≡ goes_on choosing v
-goes_on_alike (Ready x) = refl
-goes_on_alike (Fails b) = refl
-goes_on_alike (Turns j) = refl
-goes_on_alike (Needs k) = refl
+    go : (b : Bool) → (number_of rs k ≡ None → ask_of rs k ≡ None) → (if b then Some 0 else option_map suc (number_of rs k)) ≡ None → (if b then option_map plain r.1 else ask_of rs k) ≡ None
+    go true again h = let e : ⊥ = cc in absurd e
+    go false again h = again (later (number_of rs k) h)
 
 module _ (rows : List Row) where
-  abbrev pub D : Bool → Term → List (Option Digest)
+  abbrev D : Bool → Term → List (Option Digest)
   D here e = digests_behind (ask_of rows) here e
 
-  abbrev pub R : Form → Bool → Parts Var Name → List (Option Digest)
+  abbrev R : Form → Bool → Parts Var Name → List (Option Digest)
   R f here r = digests_behind_row (ask_of rows) f here r
+
+  abbrev W : Key → Walked Term
+  W k = walk_key None (ask_of rows) k
+
+  -- ---- the digest behind an import, by its key
+
+  abbrev digest_for : Key → Walked Term → Option Digest
+  digest_for k (Ready v) = if is_none k.digest && takes_content k.mode then Some (digest_of v) else None
+  digest_for k (Fails b) = None
+  digest_for k (Turns j) = None
+  digest_for k (Needs j) = None
+
+  for_import : (i : Import) (w : Walked Term) → digest_behind i w ≡ digest_for (chained None i) w
+  for_import i (Ready v) = refl
+  for_import i (Fails b) = refl
+  for_import i (Turns j) = refl
+  for_import i (Needs j) = refl
+
+  abbrev behind : Option Key → Option Digest
+  behind None = None
+  behind (Some k) = digest_for k (W k)
 
   -- ---- where the walk does not come
 
@@ -114,165 +93,209 @@ module _ (rows : List Row) where
     none_behind_row f (kid b e r) =
         ap (λ ds. ds ++ R f false r) (none_behind e) ∙ ap (λ ds. replicate (imports e) None ++ ds) (none_behind_row f r) ∙ replicate-append-replicate (imports e) (imports_of_parts r) None
 
-  none_at : (n : ℕ) → digests_at rows (replicate n None) ≡ replicate n None
-  none_at zero = refl
-  none_at (suc n) = ap (λ ds. None ∷ ds) (none_at n)
+  none_for : (n : ℕ) → replicate n None ≡ map behind (replicate n None)
+  none_for zero = refl
+  none_for (suc n) = ap (λ ds. None ∷ ds) (none_for n)
 
-  enough : (ks : List Key) (es : List Edge) → Begins None rows ks es → length ks ≤ length es
-  enough [] es b = omega arith
-  enough (k ∷ ks) [] b = absurd b
-  enough (k ∷ ks) (e ∷ es) b = let h = enough ks es b.1 in omega arith
+  -- ---- the parts of a node are walked by the same rules
 
-  pub enough_edges : (e : Term) (es : List Edge) → Begins None rows (keys_of None e) es → imports e ≤ length es
-  enough_edges e es b = let h = enough (keys_of None e) es b in let c = count-keys None e in omega arith
+  chooses_all : (r : Parts Var Name) → chooses true choosing r ≡ true
+  chooses_all end = refl
+  chooses_all (kid b e end) = refl
+  chooses_all (kid b e (kid c d end)) = refl
+  chooses_all (kid b e (kid c d (kid x f r))) = refl
 
-  pub passed : (e : Term) (es : List Edge) (old new : List (Option ℕ)) (here : Bool) → here ≡ false → (imports e ≤ length es → new ≡ old ++ replicate (imports e) None) → Begins None rows (keys_of None e) es
-      → digests_at rows new ≡ digests_at rows old ++ D here e
-  passed e es old new here h step b =
-      ap (digests_at rows) (step (enough_edges e es b)) ∙ map-append (digest_at rows) old (replicate (imports e) None)
-      ∙ ap (λ ds. digests_at rows old ++ ds) (none_at (imports e) ∙ sym (none_behind e) ∙ ap (λ c. D c e) (sym h))
-
-  -- ---- nodes
-
-  pub variable_behind : (e : Expr) (x : Name) (n : ℕ) (here : Bool) (ds : List (Option Digest)) → e ≡ expr.Var x n → ds ≡ ds ++ D here (term e)
-  variable_behind e x n here ds h = sym (append-nil ds) ∙ ap (λ more. ds ++ more) (sym (at_term-Var (λ t. D here t) e x n h))
-
-  node_behind : (e : Expr) (op : Op) (ks : List Kid) (f : Form) → e ≡ expr.Node op ks → form_of op ≡ f → D true (term e) ≡ own_digest (ask_of rows) true f ++ R f true (row_of ks)
-  node_behind e op ks f h p = at_term-Node (λ t. D true t) e op ks h ∙ ap (λ f. own_digest (ask_of rows) true f ++ R f true (row_of ks)) p
-
-  pub other_behind : (e : Expr) (op : Op) (ks : List Kid) (before : Next) (old new : List (Option Digest)) → e ≡ expr.Node op ks → part.Other ≡ part_of op → before ≡ next.Ready
-      → new ≡ old ++ R other true (row_of ks) → new ≡ old ++ D (is_ready before) (term e)
-  other_behind e op ks before old new h p first made =
-      made ∙ ap (λ ds. old ++ ds) (sym (node_behind e op ks other h (others (form_of op) p)) ∙ ap (λ b. D b (term e)) (sym (ready-true before first)))
-
-  pub choice_behind : (e : Expr) (op : Op) (ks : List Kid) (before : Next) (old new : List (Option Digest)) → e ≡ expr.Node op ks → part.Choice ≡ part_of op → before ≡ next.Ready
-      → new ≡ old ++ R choosing true (row_of ks) → new ≡ old ++ D (is_ready before) (term e)
-  choice_behind e op ks before old new h p first made =
-      made ∙ ap (λ ds. old ++ ds) (sym (node_behind e op ks choosing h (chosen (form_of op) p)) ∙ ap (λ b. D b (term e)) (sym (ready-true before first)))
-
-  -- the parts of an import are walked as those of any node
-  walks_alike : (i : Import) (w : Walked Term) → goes_on (importing i) w ≡ goes_on other w
-  walks_alike i (Ready v) = refl
-  walks_alike i (Fails b) = refl
-  walks_alike i (Turns j) = refl
-  walks_alike i (Needs k) = refl
-
+  -- those of an import are walked as those of any node
   row_alike : (i : Import) (here : Bool) (r : Parts Var Name) → R (importing i) here r ≡ R other here r
   row_alike i here end = refl
   row_alike i here (kid b e r) =
       let w = walk None (ask_of rows) e in
-      ap (λ ds. D here e ++ ds) (row_alike i (here && goes_on (importing i) w) r ∙ ap (λ b. R other (here && b) r) (walks_alike i w))
+      ap (λ ds. D here e ++ ds) (row_alike i (here && goes_on (importing i) w) r ∙ ap (λ b. R other (here && b) r) (walks_alike w))
+    where
+      walks_alike : (w : Walked Term) → goes_on (importing i) w ≡ goes_on other w
+      walks_alike (Ready v) = refl
+      walks_alike (Fails b) = refl
+      walks_alike (Turns j) = refl
+      walks_alike (Needs k) = refl
 
-  begins_rest : (k : Key) (ks : List Key) (es : List Edge) → Begins None rows (k ∷ ks) es → Begins None rows ks (drop 1 es)
-  begins_rest k ks [] b = absurd b
-  begins_rest k ks (e ∷ es) b = b.1
+  abbrev see : Term → List (Option Key)
+  see e = seen (freezing rows) true e
 
-  pub import_behind : (e : Expr) (op : Op) (ks : List Kid) (es own : List Edge) (before : Next) (old middle new : List (Option Digest)) → e ≡ expr.Node op ks → part.Import ≡ part_of op → before ≡ next.Ready → own ≡ drop 1 es
-      → ((i : Import) (ls : List Key) → Begins None rows (chained None i ∷ ls) es → middle ≡ old ++ digest_behind i (walk_key None (ask_of rows) (chained None i)) ∷ [])
-      → (Begins None rows (keys_of_row None (row_of ks)) own → new ≡ middle ++ R other true (row_of ks)) → Begins None rows (keys_of None (term e)) es → new ≡ old ++ D (is_ready before) (term e)
-  import_behind e op ks es own before old middle new h p first rest_is one more b =
-      let i = imported (form_of op) p in
-      let d = digest_behind i.0 (walk_key None (ask_of rows) (chained None i.0)) in
-      let ls = keys_of_row None (row_of ks) in
-      let keys : keys_of None (term e) ≡ chained None i.0 ∷ ls = at_term-Node (keys_of None) e op ks h ∙ ap (λ f. keys_of_form None f ++ ls) i.1 in
-      let all = subst (λ ks. Begins None rows ks es) keys b in
-      let behind : D true (term e) ≡ d ∷ R other true (row_of ks) = node_behind e op ks (importing i.0) h i.1 ∙ ap (λ ds. d ∷ ds) (row_alike i.0 true (row_of ks)) in
-      more (subst (Begins None rows ls) (sym rest_is) (begins_rest (chained None i.0) ls es all)) ∙ ap (λ ds. ds ++ R other true (row_of ks)) (one i.0 ls all)
-      ∙ append_assoc old (d ∷ []) (R other true (row_of ks)) ∙ ap (λ ds. old ++ ds) (sym behind ∙ ap (λ c. D c (term e)) (sym (ready-true before first)))
+  abbrev see_row : Bool → Bool → Parts Var Name → List (Option Key)
+  see_row choice here r = seen_row (freezing rows) true choice here r
 
-  -- ---- the parts of a node in turn
+  behind_node : (f : Form) (r : Parts Var Name) → ((choice : Bool) → R (form_by choice) true r ≡ map behind (see_row choice true r))
+      → own_digest (ask_of rows) true f ++ R f true r ≡ map behind (own_key None f ++ see_row (chooses true f r) (begins true f) r)
+  behind_node (importing i) r row =
+      ap (λ ds. digest_behind i (W (chained None i)) ∷ ds) (row_alike i true r ∙ row false) ∙ ap (λ d. d ∷ map behind (see_row false true r)) (for_import i (W (chained None i)))
+  behind_node choosing r row = row true ∙ sym (ap (λ b. map behind (see_row b true r)) (chooses_all r))
+  behind_node other r row = row false
 
-  row_at : (f : Form) (here : Bool) (ks : List Kid) (i : ℕ) (k : Kid) → i < length ks → k ≡ get_or ks i k
-      → R f here (row_of (drop i ks)) ≡ D here (term k.body) ++ R f (here && goes_on f (walk None (ask_of rows) (term k.body))) (row_of (drop (i + 1) ks))
-  row_at f here ks i k h e = ap (λ r. R f here r) (row_of-drop_item ks i k h e)
+  mutual
+    behind_seen : (e : Term) → D true e ≡ map behind (see e)
+    behind_seen (Leaf v) = refl
+    behind_seen (Node op r) = behind_node (form_of op) r (λ choice. behind_row choice true r)
 
-  pub next_row : (f : Form) (here goes : Bool) (ks : List Kid) (i : ℕ) (k : Kid) (old middle new : List (Option Digest)) → i < length ks → k ≡ get_or ks i k
-      → goes ≡ here && goes_on f (walk None (ask_of rows) (term k.body)) → new ≡ middle ++ D here (term k.body)
-      → middle ++ R f here (row_of (drop i ks)) ≡ old ++ R f true (row_of ks) → new ++ R f goes (row_of (drop (i + 1) ks)) ≡ old ++ R f true (row_of ks)
-  next_row f here goes ks i k old middle new h e g made so_far =
-      ap (λ ds. ds ++ R f goes (row_of (drop (i + 1) ks))) made ∙ append_assoc middle (D here (term k.body)) (R f goes (row_of (drop (i + 1) ks)))
-      ∙ ap (λ b. middle ++ (D here (term k.body) ++ R f b (row_of (drop (i + 1) ks)))) g ∙ ap (λ ds. middle ++ ds) (sym (row_at f here ks i k h e)) ∙ so_far
-
-  pub whole_row : (f : Form) (here : Bool) (ks : List Kid) (i : ℕ) (old new : List (Option Digest)) → length ks ≤ i → new ++ R f here (row_of (drop i ks)) ≡ old ++ R f true (row_of ks) → new ≡ old ++ R f true (row_of ks)
-  whole_row f here ks i old new h so_far = sym (append-nil new) ∙ ap (λ ds. new ++ ds) (sym (ap (λ r. R f here r) (row_of-drop_all ks i h))) ∙ so_far
-
-  pub next_part : (ks : List Kid) (i : ℕ) (k : Kid) (m n : Next) (es : List Edge) (old middle new : List (Option Digest)) → i < length ks → k ≡ get_or ks i k → SoFar None rows ks i m es
-      → (Begins None rows (keys_of None (term k.body)) es → (w : Walked (Unit {0})) → IsNext None rows w m → IsNext None rows (after w (walk None (ask_of rows) (term k.body))) n)
-      → (Begins None rows (keys_of None (term k.body)) es → new ≡ middle ++ D (is_ready m) (term k.body))
-      → middle ++ R other (is_ready m) (row_of (drop i ks)) ≡ old ++ R other true (row_of ks) → new ++ R other (is_ready n) (row_of (drop (i + 1) ks)) ≡ old ++ R other true (row_of ks)
-  next_part ks i k m n es old middle new h e s step made so_far =
-      let b = begins_at_item None rows ks i k es h e s.begins in
-      next_row other (is_ready m) (is_ready n) ks i k old middle new h e (ready_after rows s.before (walk None (ask_of rows) (term k.body)) m n s.next_is (step b s.before s.next_is)) (made b) so_far
-
-  -- ---- the two sides of a choice
-
-  pub two_sides : (ks : List Kid) (k j : Kid) (b : Bool) (old middle new : List (Option Digest)) → length ks ≡ 2 → k ≡ get_or ks 0 k → j ≡ get_or ks 1 j
-      → going.goes_on (walk None (ask_of rows) (term k.body)) ≡ b → middle ≡ old ++ D true (term k.body) → new ≡ middle ++ D b (term j.body) → new ≡ old ++ R choosing true (row_of ks)
-  two_sides ks k j b old middle new h p q going one two =
-      let left = walk None (ask_of rows) (term k.body) in
-      two ∙ ap (λ ds. ds ++ D b (term j.body)) one ∙ append_assoc old (D true (term k.body)) (D b (term j.body))
-      ∙ ap (λ ds. old ++ (D true (term k.body) ++ ds)) (sym (append-nil (D b (term j.body))) ∙ ap (λ c. D c (term j.body) ++ []) (sym going ∙ goes_on_alike left))
-      ∙ ap (λ ds. old ++ ds) (sym (ap (λ r. R choosing true r) (two_kids ks k j h p q)))
+    behind_row : (choice here : Bool) (r : Parts Var Name) → R (form_by choice) here r ≡ map behind (see_row choice here r)
+    behind_row choice here end = refl
+    behind_row choice true (kid b e r) =
+        let here = goes_on (form_by choice) (walk None (ask_of rows) e) in
+        ap (λ ds. ds ++ R (form_by choice) here r) (behind_seen e) ∙ ap (λ ds. map behind (see e) ++ ds) (behind_row choice here r) ∙ sym (map-append behind (see e) (see_row choice here r))
+    behind_row choice false (kid b e r) =
+        let none = replicate (imports e) None in
+        ap (λ ds. ds ++ R (form_by choice) false r) (none_behind e ∙ none_for (imports e)) ∙ ap (λ ds. map behind none ++ ds) (behind_row choice false r)
+        ∙ sym (map-append behind none (see_row choice false r))
 
   -- ---- an import
 
-  ready_value : (k : Key) (o : Option program.Outcome) (sane : Bool) → let w : Walked Term = (if sane then by_outcome None k (option_map plain o) else Fails (record { at = None; why = whys.Insane k.loc })) in
-      IsNext None rows w next.Ready → (v : Term) × (w ≡ Ready v) × (value_digest o ≡ Some (digest_of v))
-  ready_value k o false h = absurd h
-  ready_value k None true h = absurd h
-  ready_value k (Some (variants.Good v origin)) true h = go (allowed None k origin) h
-    where
-      go : (b : Bool) → IsNext None rows (if b then Ready (term v) else Fails (record { at = None; why = whys.Cors k.loc })) next.Ready
-          → (u : Term) × ((if b then Ready (term v) else Fails (record { at = None; why = whys.Cors k.loc })) ≡ Ready u) × (Some (digest_of (term v)) ≡ Some (digest_of u))
-      go true h = (term v, refl, refl)
-      go false h = absurd h
-  ready_value k (Some (variants.Bad b)) true h = absurd (go (of_blame b.at b.why) (blamed b.at b.why) h)
-    where
-      go : (o : Outcome) → Blamed b o → IsNext None rows (by_outcome None k (Some o)) next.Ready → ⊥
-      go _ fault h = h
-      go _ (looped q) h = h
+  -- a number and the digest of its value, or neither
+  data Taken : Option ℕ → Option Digest → Type 0 where
+    none : Taken None None
+    some : {n : ℕ} {d : Digest} → digest_at rows (Some n) ≡ Some d → Taken (Some n) (Some d)
 
-  taken : (i : Import) (w : Walked Term) (v : Term) → (is_none i.digest && takes_content i.mode) ≡ true → w ≡ Ready v → Some (digest_of v) ≡ digest_behind i w
-  taken i w v t h = sym (ap (digest_behind i) h ∙ ap (λ b. if b then Some (digest_of v) else None) t)
+  module _ (k : Key) where
+    abbrev Ends : Option ℕ → Walked Term → Type 0
+    Ends o w = Taken (if takes k w then o else None) (digest_for k w)
 
-  pub key_taken : (i : Import) (e : Edge) (k : Key) (n : Next) → IsEdge None rows (chained None i) e → key_at rows e.key ≡ Some k → n ≡ next.Ready → (is_none k.digest && takes_content k.mode) ≡ true
-      → IsNext None rows (walk_key None (ask_of rows) (chained None i)) n → digest_at rows (Some e.key) ≡ digest_behind i (walk_key None (ask_of rows) (chained None i))
-  key_taken i e k n h known first t comes =
-      let s = stands rows (chained None i) e.key h.numbered in
-      let same : k ≡ chained None i = some-equal (sym known ∙ s.key_is) in
-      let by : Option Outcome → Walked Term = λ a. if is_sane None (chained None i) then by_outcome None (chained None i) a else Fails (record { at = None; why = whys.Insane (chained None i).loc }) in
-      let P : Next → Type 0 = λ m. IsNext None rows (walk_key None (ask_of rows) (chained None i)) m in
-      let Q : Option Outcome → Type 0 = λ a. IsNext None rows (by a) next.Ready in
-      let v = ready_value (chained None i) s.outcome (is_sane None (chained None i)) (subst Q s.asked (subst P first comes)) in
-      ap known_digest s.outcome_is ∙ v.2 ∙ taken i (walk_key None (ask_of rows) (chained None i)) v.0 (sym (ap (λ (j : Key). is_none j.digest && takes_content j.mode) same) ∙ t) (ap by s.asked ∙ v.1)
+    by_takes : (n : ℕ) (v : Term) (t : Bool) → digest_at rows (Some n) ≡ Some (digest_of v) → Taken (if t then Some n else None) (if t then Some (digest_of v) else None)
+    by_takes n v true h = some h
+    by_takes n v false h = none
 
-  pub key_untaken : (i : Import) (e : Edge) (k : Key) (w : Walked Term) → IsEdge None rows (chained None i) e → key_at rows e.key ≡ Some k → (is_none k.digest && takes_content k.mode) ≡ false → None ≡ digest_behind i w
-  key_untaken i e k w h known t =
-      let s = stands rows (chained None i) e.key h.numbered in
-      let same : k ≡ chained None i = some-equal (sym known ∙ s.key_is) in
-      by_walk w (sym (ap (λ (j : Key). is_none j.digest && takes_content j.mode) same) ∙ t)
-    where
-      by_walk : (w : Walked Term) → (is_none i.digest && takes_content i.mode) ≡ false → None ≡ digest_behind i w
-      by_walk (Ready v) t = sym (ap (λ b. if b then Some (digest_of v) else None) t)
-      by_walk (Fails b) t = refl
-      by_walk (Turns j) t = refl
-      by_walk (Needs k) t = refl
+    by_allowed : (n : ℕ) (v : Term) (b : Bool) → digest_at rows (Some n) ≡ Some (digest_of v) → Ends (Some n) (if b then Ready v else Fails (record { at = None; why = whys.Cors k.loc }))
+    by_allowed n v true h = by_takes n v (is_none k.digest && takes_content k.mode) h
+    by_allowed n v false h = none
 
-  pub unready : (i : Import) (w : Walked Term) (n : Next) → IsNext None rows w n → (n ≡ next.Ready → ⊥) → None ≡ digest_behind i w
-  unready i (Ready x) next.Ready h no_more = absurd (no_more refl)
-  unready i (Ready x) (next.Need m) h no_more = absurd h
-  unready i (Ready x) (next.Fault e) h no_more = absurd h
-  unready i (Fails b) n h no_more = refl
-  unready i (Turns j) n h no_more = refl
-  unready i (Needs k) n h no_more = refl
+    by_blame : (n : ℕ) (b : Blame) (o : Outcome) → Blamed b o → Ends (Some n) (by_outcome None k (Some o))
+    by_blame n b _ fault = none
+    by_blame n b _ (looped q) = none
 
-  pub one_key : (old new : List (Option ℕ)) (k : Option ℕ) (d : Option Digest) → new ≡ old ++ k ∷ [] → digest_at rows k ≡ d → digests_at rows new ≡ digests_at rows old ++ d ∷ []
-  one_key old new k d h p = ap (digests_at rows) h ∙ map-append (digest_at rows) old (k ∷ []) ∙ ap (λ x. digests_at rows old ++ x ∷ []) p
+    by_known : (n : ℕ) (o : Option program.Outcome) (sane : Bool) → known_digest (Some o) ≡ digest_at rows (Some n)
+        → Ends (Some n) (if sane then by_outcome None k (option_map plain o) else Fails (record { at = None; why = whys.Insane k.loc }))
+    by_known n o false h = none
+    by_known n None true h = none
+    by_known n (Some (variants.Good v origin)) true h = by_allowed n (term v) (allowed None k origin) (sym h)
+    by_known n (Some (variants.Bad b)) true h = by_blame n b (of_blame b.at b.why) (blamed b.at b.why)
 
--- ---- no key, so many times
+    unnumbered : (o : Option Outcome) (sane : Bool) → o ≡ None → Ends None (if sane then by_outcome None k o else Fails (record { at = None; why = whys.Insane k.loc }))
+    unnumbered o false h = none
+    unnumbered None true h = none
+    unnumbered (Some x) true h = let e : ⊥ = cc in absurd e
 
-none_last : (n : ℕ) → ◌≡◌ {A = List (Option ℕ)} (replicate n None ++ None ∷ []) (replicate (n + 1) None)
-none_last n = replicate-append-replicate n 1 None
+    is_taken : Taken (frozen rows k) (behind (Some k))
+    is_taken = by_number (number_of rows k) refl
+      where
+        by_number : (o : Option ℕ) → number_of rows k ≡ o → Ends o (W k)
+        by_number None h = unnumbered (ask_of rows k) (is_sane None k) (unasked rows k h)
+        by_number (Some n) h =
+            let s = stands rows k n h in
+            let by : Option Outcome → Walked Term = λ a. if is_sane None k then by_outcome None k a else Fails (record { at = None; why = whys.Insane k.loc }) in
+            subst (λ a. Ends (Some n) (by a)) (sym s.asked) (by_known n s.outcome (is_sane None k) (sym (ap known_digest s.outcome_is)))
 
-pub one_more_none : (old keys more : List (Option ℕ)) (n : ℕ) → more ≡ keys ++ None ∷ [] → keys ≡ old ++ replicate n None → more ≡ old ++ replicate (n + 1) None
-one_more_none old keys more n h so_far = h ∙ ap (λ ks. ks ++ None ∷ []) so_far ∙ append_assoc old (replicate n None) (None ∷ []) ∙ ap (λ ks. old ++ ks) (none_last n)
+  taken_digest : (a : Option ℕ) (d : Option Digest) → Taken a d → digest_at rows a ≡ d
+  taken_digest _ _ none = refl
+  taken_digest _ _ (some h) = h
+
+  taken_value : (a : Option ℕ) (d : Option Digest) → Taken a d → IfSome a (HasValue rows)
+  taken_value _ _ none = tt
+  taken_value _ _ (some h) = subst IsSome (sym h) refl
+
+  -- ---- what a visit writes
+
+  module _ (k : Key) (e : Edge) (i : ℕ) (keys : List (Option ℕ)) where
+    ready_takes : (w : Walked Term) → IsNext None rows w next.Ready → takes k w ≡ (is_none k.digest && takes_content k.mode)
+    ready_takes (Ready v) h = refl
+    ready_takes (Fails b) h = absurd h
+    ready_takes (Turns j) h = absurd h
+    ready_takes (Needs j) h = absurd h
+
+    unready_takes : (w : Walked Term) (n : Next) → IsNext None rows w n → (n ≡ next.Ready → ⊥) → takes k w ≡ false
+    unready_takes (Ready v) next.Ready h never = absurd (never refl)
+    unready_takes (Ready v) (next.Need m) h never = absurd h
+    unready_takes (Ready v) (next.Fault f) h never = absurd h
+    unready_takes (Fails b) n h never = refl
+    unready_takes (Turns j) n h never = refl
+    unready_takes (Needs j) n h never = refl
+
+    untaken : takes k (W k) ≡ false → keys ≡ put i (frozen rows k) keys
+    untaken h = sym (ap (λ b. put i (if b then number_of rows k else None) keys) h)
+
+    pub unready_kept : (n : Next) → IsNext None rows (W k) n → (n ≡ next.Ready → ⊥) → keys ≡ put i (frozen rows k) keys
+    unready_kept n h never = untaken (unready_takes (W k) n h never)
+
+    same_key : (j : Key) → IsEdge None rows k e → key_at rows e.key ≡ Some j → j ≡ k
+    same_key j is known = some-equal (sym known ∙ (stands rows k e.key is.numbered).key_is)
+
+    takes_by : (j : Key) (n : Next) (b : Bool) → IsEdge None rows k e → key_at rows e.key ≡ Some j → n ≡ next.Ready → IsNext None rows (W k) n → (is_none j.digest && takes_content j.mode) ≡ b → takes k (W k) ≡ b
+    takes_by j n b is known ready h t =
+        ready_takes (W k) (subst (λ (m : Next). IsNext None rows (W k) m) ready h) ∙ ap (λ (x : Key). is_none x.digest && takes_content x.mode) (sym (same_key j is known)) ∙ t
+
+    pub taken_written : (j : Key) (n : Next) → IsEdge None rows k e → key_at rows e.key ≡ Some j → n ≡ next.Ready → IsNext None rows (W k) n → (is_none j.digest && takes_content j.mode) ≡ true
+        → slice_set keys i (Some e.key) ≡ put i (frozen rows k) keys
+    taken_written j n is known ready h t =
+        ap (λ o. put i o keys) (sym is.numbered) ∙ sym (ap (λ b. put i (if b then number_of rows k else None) keys) (takes_by j n true is known ready h t))
+
+    pub untaken_kept : (j : Key) (n : Next) → IsEdge None rows k e → key_at rows e.key ≡ Some j → n ≡ next.Ready → IsNext None rows (W k) n → (is_none j.digest && takes_content j.mode) ≡ false
+        → keys ≡ put i (frozen rows k) keys
+    untaken_kept j n is known ready h t = untaken (takes_by j n false is known ready h t)
+
+  -- ---- all that is written
+
+  abbrev number : Option Key → Option ℕ
+  number None = None
+  number (Some k) = frozen rows k
+
+  put_seam : (pre post : List (Option ℕ)) (o : Option ℕ) → put (length pre) o (pre ++ None ∷ post) ≡ pre ++ o ∷ post
+  put_seam pre post None = refl
+  put_seam pre post (Some n) = set-append_seam pre None post (Some n)
+
+  at_seam : (pre : List (Option ℕ)) (n : ℕ) → length (pre ++ replicate (suc n) None) - suc n ≡ length pre
+  at_seam pre n = let a = length-append pre (replicate (suc n) None) in let b = length-replicate {A = Option ℕ} (suc n) None in omega arith
+
+  written_keys : (es : List Edge) (vs : List (Option Key)) (pre : List (Option ℕ)) → length vs ≤ length es
+      → written (freezing rows) es vs (pre ++ replicate (length es) None) ≡ pre ++ (map number vs ++ replicate (length (drop (length vs) es)) None)
+  written_keys es [] pre h = refl
+  written_keys [] (v ∷ vs) pre h = let e : ⊥ = omega arith in absurd e
+  written_keys (e ∷ es) (None ∷ vs) pre h =
+      ap (written (freezing rows) es vs) (sym (append_assoc pre (None ∷ []) (replicate (length es) None))) ∙ written_keys es vs (pre ++ None ∷ []) (omega arith)
+      ∙ append_assoc pre (None ∷ []) _
+  written_keys (e ∷ es) (Some k ∷ vs) pre h =
+      ap (λ i. written (freezing rows) es vs (put i (frozen rows k) (pre ++ None ∷ replicate (length es) None))) (at_seam pre (length es))
+      ∙ ap (written (freezing rows) es vs) (put_seam pre (replicate (length es) None) (frozen rows k) ∙ sym (append_assoc pre (frozen rows k ∷ []) (replicate (length es) None)))
+      ∙ written_keys es vs (pre ++ frozen rows k ∷ []) (omega arith) ∙ append_assoc pre (frozen rows k ∷ []) _
+
+  number_digests : (vs : List (Option Key)) → digests_at rows (map number vs) ≡ map behind vs
+  number_digests [] = refl
+  number_digests (None ∷ vs) = ap (λ ds. None ∷ ds) (number_digests vs)
+  number_digests (Some k ∷ vs) = ap (λ d. d ∷ digests_at rows (map number vs)) (taken_digest (frozen rows k) (behind (Some k)) (is_taken k)) ∙ ap (λ ds. behind (Some k) ∷ ds) (number_digests vs)
+
+  number_values : (vs : List (Option Key)) → HaveValues rows (map number vs)
+  number_values [] = All-nil (λ (n : Option ℕ). IfSome n (HasValue rows))
+  number_values (None ∷ vs) = All-cons (λ (n : Option ℕ). IfSome n (HasValue rows)) None (map number vs) tt (number_values vs)
+  number_values (Some k ∷ vs) = All-cons (λ (n : Option ℕ). IfSome n (HasValue rows)) (frozen rows k) (map number vs) (taken_value (frozen rows k) (behind (Some k)) (is_taken k)) (number_values vs)
+
+  module _ (e : Term) (es rest : List Edge) (n len : ℕ) (keys slots post first : List (Option ℕ)) (fits : imports e ≤ length es) (taken : keys ≡ take n (take len (slots ++ post))) (counted : n ≡ length es - length rest)
+      (rest_is : rest ≡ drop (imports e) es) (len_is : len ≡ length es) (slots_are : slots ≡ written (freezing rows) es (see e) first) (none_first : first ≡ replicate (length es) None) where
+    all_are : slots ≡ map number (see e) ++ replicate (length (drop (length (see e)) es)) None
+    all_are =
+        slots_are ∙ ap (written (freezing rows) es (see e)) none_first
+        ∙ written_keys es (see e) [] (subst (λ i. i ≤ length es) (sym (seen-length (freezing rows) true e)) fits)
+
+    keys_are : keys ≡ map number (see e)
+    keys_are =
+        let l = seen-length (freezing rows) true e in
+        let d = ap length rest_is ∙ length-drop (imports e) es in
+        let m = length-map (see e) number in
+        let none = replicate (length (drop (length (see e)) es)) None in
+        let a = ap length all_are ∙ length-append (map number (see e)) none in
+        let b = length-replicate {A = Option ℕ} (length (drop (length (see e)) es)) None in
+        let f = length-drop (length (see e)) es in
+        let whole : len ≡ length slots = omega arith in
+        let count : n ≡ length (map number (see e)) = omega arith in
+        taken ∙ ap (λ i. take n (take i (slots ++ post))) whole ∙ ap (take n) (take-append_seam slots post ∙ all_are) ∙ ap (λ i. take i (map number (see e) ++ none)) count
+        ∙ take-append_seam (map number (see e)) none
+
+    pub frozen_digests : digests_at rows keys ≡ digests_behind (ask_of rows) true e
+    frozen_digests = ap (digests_at rows) keys_are ∙ number_digests (see e) ∙ sym (behind_seen e)
+
+    pub frozen_values : HaveValues rows keys
+    frozen_values = subst (HaveValues rows) (sym keys_are) (number_values (see e))

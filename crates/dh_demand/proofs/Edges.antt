@@ -1,5 +1,5 @@
 -- The edges of an expression and of its parts.
-use Rattle.std.specs.Prelude.{◌≡◌, ◌<◌, ℕ, ◌+◌, ◌++◌, Bool, List, [], ◌∷◌, length, drop, All, Option, refl}
+use Rattle.std.specs.Prelude.{◌≡◌, ◌<◌, ℕ, ◌+◌, ◌++◌, List, [], ◌∷◌, length, drop, Option, refl}
 use Rattle.std.proofs.Common.{ap, sym, ◌∙◌, subst, get_or, length-append}
 use Rattle.std.proofs.lemmas.List.Elements.{All-drop}
 use Rattle.dh_syntax.specs.declared.expressions.Kid.{Kid}
@@ -11,7 +11,6 @@ use Rattle.dh_imports.specs.Walk.{Form, importing, choosing, other, form_of, key
 use Rattle.dh_syntax.proofs.Rows.{row_of-drop_item}
 use Rattle.dh_demand.specs.declared.scans.Edge.{Edge}
 use Rattle.dh_demand.specs.Results.{Row}
-use Rattle.dh_demand.specs.Wants.{HaveMarks}
 use Rattle.dh_demand.specs.Scans.{IsEdge, Begins, AreInside, own_imports, imports, imports_of_parts}
 
 -- there are as many keys as imports
@@ -63,8 +62,3 @@ begins_after_item parent rows ks i k es rest h e p b =
 
 pub inside-drop : (rows : List Row) (n : ℕ) (es rest : List Edge) → rest ≡ drop n es → AreInside rows es → AreInside rows rest
 inside-drop rows n es rest p h = subst (AreInside rows) (sym p) (All-drop (λ (e : Edge). e.key < length rows) n es h)
-
-pub marks-drop : (n : ℕ) (es rest : List Edge) (old new : List Bool) → rest ≡ drop n es → length new ≡ length old → HaveMarks old es → HaveMarks new rest
-marks-drop n es rest old new p q h =
-    let P : ℕ → Type 0 = λ m. All (λ (e : Edge). e.key < m) rest in
-    subst P (sym q) (subst (HaveMarks old) (sym p) (All-drop (λ (e : Edge). e.key < length old) n es h))

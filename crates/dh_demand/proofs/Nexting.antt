@@ -1,5 +1,5 @@
--- What comes next of walks, one after the other.
-use Rattle.std.specs.Prelude.{◌≡◌, ◌<◌, ◌≤◌, ℕ, ◌+◌, ◌++◌, true, false, if◌then◌else◌, List, [], ◌∷◌, length, drop, Option, refl}
+-- What comes next in a node.
+use Rattle.std.specs.Prelude.{◌≡◌, ◌+◌, ◌++◌, List, [], ◌∷◌, length, drop, Option, refl}
 use Rattle.std.proofs.Common.{ap, sym, ◌∙◌, subst, arith, get_or, zero-add, add-zero}
 use Rattle.std.proofs.lemmas.List.{drop-drop}
 use Rattle.dh_syntax.specs.declared.expressions.Expr.{Expr}
@@ -10,12 +10,11 @@ use Rattle.dh_syntax.specs.declared.locations.Import.{Import}
 use Rattle.dh_syntax.specs.declared.locations.Key.{Key}
 use Rattle.dh_syntax.specs.declared.locations.Loc.{Loc}
 use Rattle.dh_syntax.specs.Expressions.Bridge.{term, row_of}
-use Rattle.dh_syntax.specs.Expressions.Tree.{Node, end, kid, Name, Term}
+use Rattle.dh_syntax.specs.Expressions.Tree.{Node, end, kid, Term}
 use Rattle.dh_syntax.specs.Normalising.Trees.{replace_row}
 use Rattle.dh_syntax.specs.Imports.Keys.{chained}
-use Rattle.dh_imports.specs.Walk.{Form, importing, choosing, other, form_of, Walked, Ready, Fails, Turns, Needs, and_then, or_else, in_order, walk_node, walk, walks, course, course_key, course_node, courses, keys_of_form, keys_of, keys_of_row}
-use Rattle.dh_syntax.proofs.Bridge.{at_term-Var, at_term-Node}
-use Rattle.dh_syntax.proofs.Rows.{row_of-drop_item, row_of-drop_all}
+use Rattle.dh_imports.specs.Walk.{Ask, Form, importing, choosing, other, form_of, Walked, Ready, Fails, Turns, Needs, and_then, or_else, in_order, walk_node, walk, walks, keys_of_form, keys_of, keys_of_row}
+use Rattle.dh_syntax.proofs.Bridge.{at_term-Node}
 use Rattle.dh_demand.specs.declared.scans.Edge.{Edge}
 use Rattle.dh_demand.specs.declared.ends.Next.{Next}
 use Rattle.dh_demand.specs.declared.ends.Next.TheVariants as next
@@ -23,7 +22,6 @@ use Rattle.dh_demand.specs.declared.parts.Part.TheVariants as part
 use Rattle.dh_demand.specs.Results.{Row, ask_of}
 use Rattle.dh_demand.specs.Scans.{text_key, Begins, own_imports, imports, imports_of_parts}
 use Rattle.dh_demand.specs.Nexts.{IsNext}
-use Rattle.dh_demand.specs.Inside.Going.{goes_on}
 use Rattle.dh_demand.specs.Inside.Parts.{by_form, part_of}
 use Rattle.dh_demand.specs.Inside.Walking.{after, choice}
 use Rattle.dh_demand.proofs.Edges.{begins_at_item, begins_after_item}
@@ -89,7 +87,6 @@ pub record Imports (parent : Option Loc) (rows : List Row) (e : Expr) (ks : List
   pub key : Key
   pub keys_are : keys_of parent (term e) ≡ key ∷ keys_of_row parent (row_of ks)
   pub walk_is : walk (text_key parent) (ask_of rows) (term e) ≡ comes parent rows key
-  pub course_is : course (text_key parent) (ask_of rows) (term e) ≡ course_key (text_key parent) (ask_of rows) key
 
 pub import_node : (parent : Option Loc) (rows : List Row) (e : Expr) (op : Op) (ks : List Kid) → e ≡ expr.Node op ks → part.Import ≡ part_of op → Imports parent rows e ks
 import_node parent rows e op ks is h =
@@ -102,10 +99,6 @@ import_node parent rows e op ks is h =
           at_term-Node (walk (text_key parent) (ask_of rows)) e op ks is
           ∙ ap (λ f. walk_node (text_key parent) (ask_of rows) op (row_of ks) f (walks (text_key parent) (ask_of rows) (row_of ks))) i.1
           ∙ ap (λ l. comes parent rows (chained l i.0)) (place_of_text parent);
-      course_is =
-          at_term-Node (course (text_key parent) (ask_of rows)) e op ks is
-          ∙ ap (λ f. course_node (text_key parent) (ask_of rows) f (courses (text_key parent) (ask_of rows) (row_of ks))) i.1
-          ∙ ap (λ l. course_key (text_key parent) (ask_of rows) (chained l i.0)) (place_of_text parent);
     }
 
 pub other_keys : (parent : Option Loc) (e : Expr) (op : Op) (ks : List Kid) → e ≡ expr.Node op ks → part.Other ≡ part_of op → keys_of parent (term e) ≡ keys_of_row parent (row_of ks)
@@ -121,41 +114,40 @@ other_imports e op ks f is p z = at_term-Node imports e op ks is ∙ ap (λ n. n
 
 -- ---- what comes next in a node, by what comes next in its parts
 
-pub other_next : (parent : Option Loc) (rows : List Row) (e : Expr) (op : Op) (ks : List Kid) (n : Next) → e ≡ expr.Node op ks → part.Other ≡ part_of op
-    → IsNext parent rows (in_order (walks (text_key parent) (ask_of rows) (row_of ks))) n → IsNext parent rows (walk (text_key parent) (ask_of rows) (term e)) n
-other_next parent rows e op ks n is h k =
-    let ws = walks (text_key parent) (ask_of rows) (row_of ks) in
-    let whole = at_term-Node (walk (text_key parent) (ask_of rows)) e op ks is
-    ∙ ap (λ f. walk_node (text_key parent) (ask_of rows) op (row_of ks) f ws) (others (form_of op) h) in
-    let P : Walked Term → Type 0 = λ w. IsNext parent rows w n in
-    subst P (sym whole) (rebuilt parent rows (in_order ws) (λ es. Node op (replace_row (row_of ks) es)) n k)
+module _ (parent : Option Loc) (rows : List Row) (ask : Ask) where
+  pub other_next : (e : Expr) (op : Op) (ks : List Kid) (n : Next) → e ≡ expr.Node op ks → part.Other ≡ part_of op
+      → IsNext parent rows (in_order (walks (text_key parent) ask (row_of ks))) n → IsNext parent rows (walk (text_key parent) ask (term e)) n
+  other_next e op ks n is h k =
+      let ws = walks (text_key parent) ask (row_of ks) in
+      let whole = at_term-Node (walk (text_key parent) ask) e op ks is ∙ ap (λ f. walk_node (text_key parent) ask op (row_of ks) f ws) (others (form_of op) h) in
+      let P : Walked Term → Type 0 = λ w. IsNext parent rows w n in
+      subst P (sym whole) (rebuilt parent rows (in_order ws) (λ es. Node op (replace_row (row_of ks) es)) n k)
 
-chosen_next : (parent : Option Loc) (rows : List Row) (op : Op) (ks : List Kid) (n : Next) (ws : List (Walked Term))
-    → IsNext parent rows (choice ws) n → IsNext parent rows (walk_node (text_key parent) (ask_of rows) op (row_of ks) choosing ws) n
-chosen_next parent rows op ks n [] h = rebuilt parent rows (in_order []) (λ es. Node op (replace_row (row_of ks) es)) n (unbuilt parent rows (in_order []) (λ es. tt {0}) n h)
-chosen_next parent rows op ks n (v ∷ []) h =
-    rebuilt parent rows (in_order (v ∷ [])) (λ es. Node op (replace_row (row_of ks) es)) n (unbuilt parent rows (in_order (v ∷ [])) (λ es. tt {0}) n h)
-chosen_next parent rows op ks n (v ∷ w ∷ []) h = unbuilt parent rows (or_else v w) (λ e. tt {0}) n h
-chosen_next parent rows op ks n (v ∷ w ∷ u ∷ us) h =
-    rebuilt parent rows (in_order (v ∷ w ∷ u ∷ us)) (λ es. Node op (replace_row (row_of ks) es)) n (unbuilt parent rows (in_order (v ∷ w ∷ u ∷ us)) (λ es. tt {0}) n h)
+  chosen_next : (op : Op) (ks : List Kid) (n : Next) (ws : List (Walked Term))
+      → IsNext parent rows (choice ws) n → IsNext parent rows (walk_node (text_key parent) ask op (row_of ks) choosing ws) n
+  chosen_next op ks n [] h = rebuilt parent rows (in_order []) (λ es. Node op (replace_row (row_of ks) es)) n (unbuilt parent rows (in_order []) (λ es. tt {0}) n h)
+  chosen_next op ks n (v ∷ []) h =
+      rebuilt parent rows (in_order (v ∷ [])) (λ es. Node op (replace_row (row_of ks) es)) n (unbuilt parent rows (in_order (v ∷ [])) (λ es. tt {0}) n h)
+  chosen_next op ks n (v ∷ w ∷ []) h = unbuilt parent rows (or_else v w) (λ e. tt {0}) n h
+  chosen_next op ks n (v ∷ w ∷ u ∷ us) h =
+      rebuilt parent rows (in_order (v ∷ w ∷ u ∷ us)) (λ es. Node op (replace_row (row_of ks) es)) n (unbuilt parent rows (in_order (v ∷ w ∷ u ∷ us)) (λ es. tt {0}) n h)
 
-pub choice_next : (parent : Option Loc) (rows : List Row) (e : Expr) (op : Op) (ks : List Kid) (n : Next) → e ≡ expr.Node op ks → part.Choice ≡ part_of op
-    → IsNext parent rows (choice (walks (text_key parent) (ask_of rows) (row_of ks))) n → IsNext parent rows (walk (text_key parent) (ask_of rows) (term e)) n
-choice_next parent rows e op ks n is h k =
-    let ws = walks (text_key parent) (ask_of rows) (row_of ks) in
-    let whole = at_term-Node (walk (text_key parent) (ask_of rows)) e op ks is
-    ∙ ap (λ f. walk_node (text_key parent) (ask_of rows) op (row_of ks) f ws) (chosen (form_of op) h) in
-    let P : Walked Term → Type 0 = λ w. IsNext parent rows w n in
-    subst P (sym whole) (chosen_next parent rows op ks n ws k)
+  pub choice_next : (e : Expr) (op : Op) (ks : List Kid) (n : Next) → e ≡ expr.Node op ks → part.Choice ≡ part_of op
+      → IsNext parent rows (choice (walks (text_key parent) ask (row_of ks))) n → IsNext parent rows (walk (text_key parent) ask (term e)) n
+  choice_next e op ks n is h k =
+      let ws = walks (text_key parent) ask (row_of ks) in
+      let whole = at_term-Node (walk (text_key parent) ask) e op ks is ∙ ap (λ f. walk_node (text_key parent) ask op (row_of ks) f ws) (chosen (form_of op) h) in
+      let P : Walked Term → Type 0 = λ w. IsNext parent rows w n in
+      subst P (sym whole) (chosen_next op ks n ws k)
 
--- with other than two parts there is no choice
-pub no_choice : (parent : Option Loc) (rows : List Row) (ks : List Kid) (n : Next) → (length ks ≡ 2 → ⊥)
-    → IsNext parent rows (in_order (walks (text_key parent) (ask_of rows) (row_of ks))) n → IsNext parent rows (choice (walks (text_key parent) (ask_of rows) (row_of ks))) n
-unfolding row_of
-no_choice parent rows [] n h k = rebuilt parent rows (in_order []) (λ es. tt {0}) n k
-no_choice parent rows (a ∷ []) n h k = rebuilt parent rows (in_order (walks (text_key parent) (ask_of rows) (row_of (a ∷ [])))) (λ es. tt {0}) n k
-no_choice parent rows (a ∷ b ∷ []) n h k = absurd (h refl)
-no_choice parent rows (a ∷ b ∷ d ∷ ks) n h k = rebuilt parent rows (in_order (walks (text_key parent) (ask_of rows) (row_of (a ∷ b ∷ d ∷ ks)))) (λ es. tt {0}) n k
+  -- with other than two parts there is no choice
+  pub no_choice : (ks : List Kid) (n : Next) → (length ks ≡ 2 → ⊥)
+      → IsNext parent rows (in_order (walks (text_key parent) ask (row_of ks))) n → IsNext parent rows (choice (walks (text_key parent) ask (row_of ks))) n
+  unfolding row_of
+  no_choice [] n h k = rebuilt parent rows (in_order []) (λ es. tt {0}) n k
+  no_choice (a ∷ []) n h k = rebuilt parent rows (in_order (walks (text_key parent) ask (row_of (a ∷ [])))) (λ es. tt {0}) n k
+  no_choice (a ∷ b ∷ []) n h k = absurd (h refl)
+  no_choice (a ∷ b ∷ d ∷ ks) n h k = rebuilt parent rows (in_order (walks (text_key parent) ask (row_of (a ∷ b ∷ d ∷ ks)))) (λ es. tt {0}) n k
 
 -- ---- the two sides of a choice
 
@@ -165,38 +157,6 @@ two_kids [] k j h p q = let e : ⊥ = omega arith in absurd e
 two_kids (a ∷ []) k j h p q = let e : ⊥ = omega arith in absurd e
 two_kids (a ∷ b ∷ []) k j h p q = ap (λ (x : Kid). kid x.binder (term x.body) (kid b.binder (term b.body) end)) (sym p) ∙ ap (λ (x : Kid). kid k.binder (term k.body) (kid x.binder (term x.body) end)) (sym q)
 two_kids (a ∷ b ∷ d ∷ ks) k j h p q = let e : ⊥ = omega arith in absurd e
-
-goes_right : (v w : Walked Term) → goes_on v ≡ true → or_else v w ≡ w
-goes_right (Fails b) w h = ap (λ c. if c then w else Fails b) h
-goes_right (Ready x) w h = let e : ⊥ = cc in absurd e
-goes_right (Turns j) w h = let e : ⊥ = cc in absurd e
-goes_right (Needs k) w h = let e : ⊥ = cc in absurd e
-
-stays_left : (v w : Walked Term) → goes_on v ≡ false → or_else v w ≡ v
-stays_left (Fails b) w h = ap (λ c. if c then w else Fails b) h
-stays_left (Ready x) w h = refl
-stays_left (Turns j) w h = refl
-stays_left (Needs k) w h = refl
-
-pub right_next : (parent : Option Loc) (rows : List Row) (ks : List Kid) (k j : Kid) (n : Next) → length ks ≡ 2 → k ≡ get_or ks 0 k → j ≡ get_or ks 1 j
-    → goes_on (walk (text_key parent) (ask_of rows) (term k.body)) ≡ true → IsNext parent rows (walk (text_key parent) (ask_of rows) (term j.body)) n
-    → IsNext parent rows (choice (walks (text_key parent) (ask_of rows) (row_of ks))) n
-right_next parent rows ks k j n h p q going m =
-    let v = walk (text_key parent) (ask_of rows) (term k.body) in
-    let w = walk (text_key parent) (ask_of rows) (term j.body) in
-    let P : Walked Term → Type 0 = λ x. IsNext parent rows (and_then x (λ e. Ready (tt {0}))) n in
-    subst (λ r. IsNext parent rows (choice (walks (text_key parent) (ask_of rows) r)) n) (sym (two_kids ks k j h p q))
-    (subst P (sym (goes_right v w going)) (rebuilt parent rows w (λ e. tt {0}) n m))
-
-pub left_next : (parent : Option Loc) (rows : List Row) (ks : List Kid) (k j : Kid) (n : Next) → length ks ≡ 2 → k ≡ get_or ks 0 k → j ≡ get_or ks 1 j
-    → goes_on (walk (text_key parent) (ask_of rows) (term k.body)) ≡ false → IsNext parent rows (walk (text_key parent) (ask_of rows) (term k.body)) n
-    → IsNext parent rows (choice (walks (text_key parent) (ask_of rows) (row_of ks))) n
-left_next parent rows ks k j n h p q going m =
-    let v = walk (text_key parent) (ask_of rows) (term k.body) in
-    let w = walk (text_key parent) (ask_of rows) (term j.body) in
-    let P : Walked Term → Type 0 = λ x. IsNext parent rows (and_then x (λ e. Ready (tt {0}))) n in
-    subst (λ r. IsNext parent rows (choice (walks (text_key parent) (ask_of rows) r)) n) (sym (two_kids ks k j h p q))
-    (subst P (sym (stays_left v w going)) (rebuilt parent rows v (λ e. tt {0}) n m))
 
 pub two_imports : (ks : List Kid) (k j : Kid) (es middle rest : List Edge) → length ks ≡ 2 → k ≡ get_or ks 0 k → j ≡ get_or ks 1 j
     → middle ≡ drop (imports (term k.body)) es → rest ≡ drop (imports (term j.body)) middle → rest ≡ drop (imports_of_parts (row_of ks)) es
@@ -212,70 +172,7 @@ two_begin parent rows ks k j es middle h p q m b =
     let rest = begins_after_item parent rows ks 0 k es middle (omega arith) p m b in
     (first, begins_at_item parent rows ks 1 j middle (omega arith) q rest)
 
--- ---- the parts of a node in turn
-
-after_both : {X : Type 0} (w : Walked X) (v : Walked Term) (ws : Walked (List Term)) → after (after w v) ws ≡ after w (and_then v (λ e. and_then ws (λ es. Ready (e ∷ es))))
-after_both (Ready x) (Ready e) (Ready es) = refl
-after_both (Ready x) (Ready e) (Fails b) = refl
-after_both (Ready x) (Ready e) (Turns j) = refl
-after_both (Ready x) (Ready e) (Needs k) = refl
-after_both (Ready x) (Fails b) ws = refl
-after_both (Ready x) (Turns j) ws = refl
-after_both (Ready x) (Needs k) ws = refl
-after_both (Fails b) v ws = refl
-after_both (Turns j) v ws = refl
-after_both (Needs k) v ws = refl
-
--- what the parts before a place came to, and the edges of the parts from there
-pub record SoFar (parent : Option Loc) (rows : List Row) (ks : List Kid) (i : ℕ) (n : Next) (rest : List Edge) : Type 0 where
-  pub begins : Begins parent rows (keys_of_row parent (row_of (drop i ks))) rest
-  pub before : Walked (Unit {0})
-  pub next_is : IsNext parent rows before n
-  pub whole : after before (in_order (walks (text_key parent) (ask_of rows) (row_of (drop i ks)))) ≡ after (Ready (tt {0})) (in_order (walks (text_key parent) (ask_of rows) (row_of ks)))
-
-pub so_far-start : (parent : Option Loc) (rows : List Row) (ks : List Kid) (es : List Edge) → Begins parent rows (keys_of_row parent (row_of ks)) es → SoFar parent rows ks 0 next.Ready es
-so_far-start parent rows ks es b = record { begins = b; before = Ready (tt {0}); next_is = tt {0}; whole = refl }
-
-pub so_far-item : (parent : Option Loc) (rows : List Row) (ks : List Kid) (i : ℕ) (k : Kid) (m n : Next) (es rest : List Edge) → i < length ks → k ≡ get_or ks i k
-    → rest ≡ drop (imports (term k.body)) es
-    → (Begins parent rows (keys_of parent (term k.body)) es → (w : Walked (Unit {0})) → IsNext parent rows w m → IsNext parent rows (after w (walk (text_key parent) (ask_of rows) (term k.body))) n)
-    → SoFar parent rows ks i m es → SoFar parent rows ks (i + 1) n rest
-so_far-item parent rows ks i k m n es rest h e p step s =
-    let at = text_key parent in
-    let ask = ask_of rows in
-    record {
-      begins = begins_after_item parent rows ks i k es rest h e p s.begins;
-      before = after s.before (walk at ask (term k.body));
-      next_is = step (begins_at_item parent rows ks i k es h e s.begins) s.before s.next_is;
-      whole =
-          after_both s.before (walk at ask (term k.body)) (in_order (walks at ask (row_of (drop (i + 1) ks))))
-          ∙ sym (ap (λ r. after s.before (in_order (walks at ask r))) (row_of-drop_item ks i k h e)) ∙ s.whole;
-    }
-
-pub so_far-all : (parent : Option Loc) (rows : List Row) (ks : List Kid) (i : ℕ) (n : Next) (rest : List Edge) → length ks ≤ i → SoFar parent rows ks i n rest
-    → IsNext parent rows (in_order (walks (text_key parent) (ask_of rows) (row_of ks))) n
-so_far-all parent rows ks i n rest h s =
-    let at = text_key parent in
-    let ask = ask_of rows in
-    let all = in_order (walks at ask (row_of ks)) in
-    let last : after s.before (in_order (walks at ask end)) ≡ after (Ready (tt {0})) all = sym (ap (λ r. after s.before (in_order (walks at ask r))) (row_of-drop_all ks i h)) ∙ s.whole in
-    let P : Walked (Unit {0}) → Type 0 = λ w. IsNext parent rows w n in
-    unbuilt parent rows all (λ es. tt {0}) n (subst P last (rebuilt parent rows s.before (λ x. tt {0}) n s.next_is))
-
--- ---- nodes that are no node of parts
-
-pub variable_next : (parent : Option Loc) (rows : List Row) (e : Expr) (x : Name) (n : ℕ) → e ≡ expr.Var x n → IsNext parent rows (walk (text_key parent) (ask_of rows) (term e)) next.Ready
-variable_next parent rows e x n h =
-    let P : Walked Term → Type 0 = λ w. IsNext parent rows w next.Ready in
-    subst P (sym (at_term-Var (walk (text_key parent) (ask_of rows)) e x n h)) tt
-
-pub import_next : (parent : Option Loc) (rows : List Row) (e : Expr) (op : Op) (ks : List Kid) (n : Next) (es : List Edge) → e ≡ expr.Node op ks → part.Import ≡ part_of op
-    → ((k : Key) (ls : List Key) → Begins parent rows (k ∷ ls) es → IsNext parent rows (comes parent rows k) n)
-    → Begins parent rows (keys_of parent (term e)) es → IsNext parent rows (walk (text_key parent) (ask_of rows) (term e)) n
-import_next parent rows e op ks n es is h step b =
-    let i = import_node parent rows e op ks is h in
-    let P : Walked Term → Type 0 = λ w. IsNext parent rows w n in
-    subst P (sym i.walk_is) (step i.key (keys_of_row parent (row_of ks)) (subst (λ ls. Begins parent rows ls es) i.keys_are b))
+-- ---- the edges after a node
 
 pub import_rest : (e : Expr) (op : Op) (ks : List Kid) (es own rest : List Edge) → e ≡ expr.Node op ks → part.Import ≡ part_of op
     → own ≡ drop 1 es → rest ≡ drop (imports_of_parts (row_of ks)) own → rest ≡ drop (imports (term e)) es

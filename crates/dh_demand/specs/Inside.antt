@@ -2,7 +2,8 @@
 pub mod Parts
 pub mod Going
 pub mod Walking
-pub mod Marking
 pub mod Building
 pub mod Comparing
-pub mod Here
+pub mod Seen
+pub mod Marking
+pub mod Frozen

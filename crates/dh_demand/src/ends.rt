@@ -1,4 +1,4 @@
-//! How far a walk comes.
+//! What a walk answers.
 
 ghost use Rattle.std.specs.Prelude.{◌≡◌, ◌↔◌, IsTrue};
 

@@ -8,7 +8,7 @@ use std::marker::Model;
 /// A mark for each key, by its number.
 #[derive(Debug, Drop)]
 pub struct Marks {
-    marks: Vec<bool>,
+    pub(crate) marks: Vec<bool>,
 }
 
 impl Model for Marks {

@@ -91,6 +91,19 @@ fn a_text_without_imports_is_ready(rt: HostRuntime) -> Result<(), Fail> {
     };
     let results = results_with(None);
     assert!(rt; matches!(next(&scan, None, &results), Next::Ready));
+    let (first, way) = next_from(&scan, None, &results, Headway::Unknown);
+    assert!(rt; matches!(first, Next::Ready));
+    assert!(rt;
+        matches!(
+            way,
+            Headway::Straight {
+                imports: 0,
+                passed: 0,
+            },
+        ),
+    );
+    let (second, _way) = next_from(&scan, None, &results, way);
+    assert!(rt; matches!(second, Next::Ready));
     let mut marks = Marks::of(vec![in alloc; false; 1]?);
     wanted(&scan, None, &results, &mut marks);
     assert!(rt; !marks.is_set(0));

@@ -84,7 +84,7 @@ fn push_side<R: Results>(
     let kids = kids.as_slice();
     let left = &kids[0];
     let right = &kids[1];
-    let (first, middle) = next_in(Next::Ready, &left.body, edges, parent, results);
+    let (first, middle) = next_in(&left.body, edges, parent, results);
     if first.is_ready() {
         way.push(0)?;
         push_way(way, &left.body, edges, parent, results, path)

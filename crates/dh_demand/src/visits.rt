@@ -7,7 +7,6 @@ ghost use Rattle.dh_syntax.specs.declared.locations.Loc.{Loc};
 ghost use Rattle.dh_syntax.specs.Expressions.Tree.{Term};
 ghost use Rattle.dh_imports.specs.Outcomes.{may_go_on};
 ghost use Rattle.dh_imports.specs.Walk.{Walked, allowed, walk_key};
-ghost use Rattle.dh_demand.specs.Digests.{HasValue};
 ghost use Rattle.dh_demand.specs.Results.{Row, ask_of};
 ghost use Rattle.dh_demand.specs.Scans.{IsEdge, text_key};
 ghost use Rattle.dh_demand.specs.Nexts.{IsNext, IsInside};
@@ -26,7 +25,6 @@ pub(crate) fn visit<R: Results>(edge: Edge, parent: Option<&Loc>, results: &R) -
     ensures next { (k : Key) → IsEdge (option_copied parent.entry) (R.rows results.now) k edge →
         IsNext (option_copied parent.entry) (R.rows results.now) (walk_key (text_key (option_copied parent.entry)) (ask_of (R.rows results.now)) k) result }
     ensures inside { IsInside (R.rows results.now) result }
-    ensures ready { result ≡ Next.Ready → HasValue (R.rows results.now) edge.key }
 {
     if !edge.sane {
         return Next::Fault(edge);

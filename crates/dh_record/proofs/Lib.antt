@@ -21,3 +21,4 @@ pub mod SortedNumbers
 pub mod Stages
 pub mod Telling
 pub mod Visiting
+pub mod Ways

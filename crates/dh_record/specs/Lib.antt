@@ -14,3 +14,4 @@ pub mod Reading
 pub mod Rows
 pub mod Sorting
 pub mod Values
+pub mod Ways

@@ -54,6 +54,7 @@ impl Entry {
         self.digest
     }
 
+    /// The bytes of the entry.
     pub fn bytes(&self) -> &Bytes
         ensures { result.now ≡ self.now.bytes }
     {

@@ -94,6 +94,7 @@ impl Done {
         }
     }
 
+    /// The item of which it is the outcome.
     pub fn item(&self) -> &Item
         ensures { result.now ≡ self.now.item }
     {
@@ -107,12 +108,14 @@ impl Done {
         self.limited
     }
 
+    /// The outcome of the last step of the item, or a limit that is licensed for it.
     pub fn outcome(&self) -> &Outcome
         ensures { result.now ≡ self.now.outcome }
     {
         &self.outcome
     }
 
+    /// The outcome alone.
     pub fn into_outcome(self) -> Outcome
         ensures { result ≡ self.outcome }
     {

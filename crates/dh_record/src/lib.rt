@@ -1,9 +1,10 @@
 //! What is recorded of imports: the keys with their outcomes, the texts that were found, and the looks into the cache.
 //!
 //! Keys, texts and looks have numbers, in the order in which they came, and each is found in few steps. By what is recorded,
-//! [`look_ahead`] says what is left to do for a key: a task is due, or it waits for another key. [`due_item`] makes the item of a
-//! key whose last step is due, and [`is_own_item`] tells it. [`mark_visited`] marks the keys that a ready root visits. There is
-//! no history here, no task in flight and no lock: a table adds these.
+//! [`look_ahead`] says what is left to do for a key: a task is due, or it waits for another key. [`look_on`] says this where the walk of
+//! the key's text is known to come so far, and does not begin it again. [`due_item`] makes the item of a key whose last step is due, and
+//! [`is_own_item`] tells it. [`mark_visited`] marks the keys that a ready root visits. There is no history here, no task in flight and no
+//! lock: a table adds these.
 //!
 //! ```text
 //! let texts = Texts::of(rows.as_slice(), &order);
@@ -35,5 +36,5 @@ pub use rows::{
 };
 pub use stage::{
     Due, OwnFault, Plan, Reach, Reason, Stage, blame_at, due_item, is_own_item, look_ahead,
-    plan_of, reach_of,
+    look_on, plan_of, reach_of,
 };

@@ -8,6 +8,7 @@ mod own_items;
 mod plans;
 mod reaches;
 mod stages;
+mod ways;
 
 pub use blames::blame_at;
 pub use due_items::due_item;
@@ -16,3 +17,4 @@ pub use own_items::is_own_item;
 pub use plans::{Plan, plan_of};
 pub use reaches::{Reach, look_ahead, reach_of};
 pub use stages::{Stage, reason_at, stage_at, stage_of};
+pub use ways::look_on;

@@ -2,7 +2,19 @@
 //!
 //! A worker claims a task, works on it, and delivers what it found or what came of it. The table says which task is open: that of
 //! a key that the walk of the root wants and that waits for no other key. Each call is one step of the machine of the
-//! definitions, and the table's type keeps that its history leads to its state.
+//! definitions, and the table's type keeps that its history leads to its state. Claims and deliveries require room for their steps.
+//!
+//! ```text
+//! let mut table = Table::<Silent>::open(alloc, root)?;
+//! table.reserve(4)?;                                       // room for steps
+//! if let Claimed::Task(ticket) = table.claim(0) {
+//!     match table.work(alloc, &ticket)? {
+//!         Work::Fetch(loc) => ..,                          // then table.fetched(ticket, news)
+//!         Work::Look(digest) => ..,                        // then table.looked(ticket, news)
+//!         Work::Finish(item) => ..,                        // then table.finished(ticket, news)
+//!     }
+//! }
+//! ```
 #![tactic(auto)]
 
 mod claims;

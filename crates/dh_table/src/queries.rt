@@ -63,9 +63,9 @@ impl<W: World> Table<W> {
         ensures idle { IsTrue result ↔ IsIdle (state_of self.old) }
         ensures same { self.new ≡ self.old }
     {
-        if self.need().is_none() || self.in_flight() == 0 {
+        if self.in_flight() == 0 || self.find().is_some() {
             return false;
         }
-        self.find().is_none()
+        self.need().is_some()
     }
 }

@@ -37,6 +37,9 @@ pub struct Table<W: World> {
     // the numbers of the texts and of the looks, in the order of their locations and digests
     pub(crate) text_order: Order,
     pub(crate) look_order: Order,
+    // What `decided`, `limited`, `drawn` and `refused` hold is read by contracts alone: the calls read how long `drawn` is, and how much
+    // room
+    // each has. `history` is read by contracts, tests, and `gen`, which counts its fetches.
     // the numbers of the decided keys, in the order of their steps
     pub(crate) decided: Vec<u32>,
     // of these, the numbers of those that were decided by a limit

@@ -1,2 +1,4 @@
 pub mod SourceSteps
 pub mod Watching
+pub mod Coming
+pub mod Growing

@@ -11,12 +11,11 @@ use Rattle.dh_laws.proofs.KeyOrder.{bool-case, none-some, some-equal}
 use Rattle.dh_demand.specs.Results.{number_of}
 use Rattle.dh_record.specs.declared.rows.recorded.Entrant.{Entrant}
 use Rattle.dh_record.specs.Entering.{keys_in}
-use Rattle.dh_record.specs.Rows.{key_named, rows_of}
+use Rattle.dh_record.specs.Rows.{rows_of}
 use Rattle.dh_record.proofs.Reading.{number_names}
 use Rattle.dh_watch_files.specs.Contents.{IsPut}
 use Rattle.dh_watch_laws.specs.Contents.{IsEdited, IsOver, IsTold, Now}
 use Rattle.dh_watch_laws.specs.Kept.{IsSound, Kept, nothing, nothing_kept}
-use Rattle.dh_watch_laws.specs.Sweeping.{AreOf}
 use Rattle.dh_watch_laws.proofs.Running.{runs_add}
 use Rattle.dh_watch_rows.specs.declared.rows.Rows.{Rows}
 use Rattle.dh_watch_rows.specs.KeptRows.{IsGood, kept_of}
@@ -29,6 +28,7 @@ use Rattle.dh_watch_runs.specs.Asks.{IsRefused}
 use Rattle.dh_watch_runs.specs.Resolving.{AreMore, StaysOver, named}
 use Rattle.dh_watch_runs.proofs.Reversing.{named-more}
 use Rattle.dh_watch.specs.Watchers.{IsNumber, IsStopped, IsWatched}
+use Rattle.dh_watch.proofs.Growing.{grown-none, grown-run}
 use Rattle.dh_watch.proofs.SourceSteps.{key-count, named-key}
 
 -- ---- nothing
@@ -112,10 +112,10 @@ watched-changed told told' rows rows' stale stale' l bytes w put g f clean = rec
 -- ---- what an ask leaves
 
 pub stopped-run : (old : Kept) (root : Key) (s : Kept) (stop : Stop) → IsSound old → IsRefused old root s stop → IsStopped old root s stop
-stopped-run old root s stop h r = record { texts = (runs_add old s root r.0.trail h r.0.run).texts; many = r.1 }
+stopped-run old root s stop h r = record { texts = (runs_add old s root r.0.trail h r.0.run).texts; grown = grown-run old root h r.0.run; many = r.1 }
 
 pub stopped-none : (old : Kept) (root : Key) (s : Kept) (stop : Stop) → s ≡ old → stop ≡ stops.Memory → IsStopped old root s stop
-stopped-none old root s stop e m = record { texts = λ l t q. ap (λ z. text_at z.recorded l) e ∙ q; many = λ x. let f : stops.Memory ≡ stops.TooMany = sym m ∙ x in cc }
+stopped-none old root s stop e m = record { texts = λ l t q. ap (λ z. text_at z.recorded l) e ∙ q; grown = grown-none old s e; many = λ x. let f : stops.Memory ≡ stops.TooMany = sym m ∙ x in cc }
 
 -- the key of a number stays
 pub number-is : (keys keys' : List Entrant) (k : Key) (n : ℕ) → number_of (rows_of keys) k ≡ Some n → AreMore (keys_in keys) (keys_in keys') → IsNumber keys' k n

@@ -1,10 +1,14 @@
 -- What is always true of what is kept between two asks, and what an ask leaves.
-use Rattle.std.specs.Prelude.{◌≡◌, ◌<◌, ℕ, Bool, false, List, length, Option, Some}
+use Rattle.std.specs.Prelude.{◌≡◌, ◌<◌, ◌+◌, ℕ, Bool, false, List, length, Option, Some, None}
 use Rattle.dh_syntax.specs.declared.locations.Key.{Key}
+use Rattle.dh_syntax.specs.declared.locations.Loc.{Loc}
 use Rattle.dh_syntax.specs.Limits.{most_keys}
+use Rattle.dh_imports.specs.Machine.{IsAmong}
+use Rattle.dh_imports.specs.Records.{Noted, text_at}
 use Rattle.dh_record.specs.declared.rows.recorded.Entrant.{Entrant}
 use Rattle.dh_record.specs.Rows.{key_named}
 use Rattle.dh_watch_laws.specs.Contents.{Now, IsOver}
+use Rattle.dh_watch_laws.specs.Counting.{AreOnce}
 use Rattle.dh_watch_laws.specs.Kept.{Kept, IsSound}
 use Rattle.dh_watch_laws.specs.Sweeping.{AreOf}
 use Rattle.dh_watch_rows.specs.declared.rows.Rows.{Rows}
@@ -27,7 +31,17 @@ pub record IsNumber (keys : List Entrant) (k : Key) (n : ℕ) : Type 0 where
   pub inside : n < length keys
   pub key_is : key_named keys n ≡ k
 
--- an ask of this root was refused: no text is lost, and where it met too many keys it has found and waits for so many
+-- the texts of these locations were recorded, each once, and no others: none of them was kept before
+pub record HasGrown (old s : Kept) : Type 0 where
+  pub locs : List Loc
+  pub once : AreOnce locs
+  pub fresh : (l : Loc) → IsAmong l locs → text_at old.recorded l ≡ None
+  pub recorded : (l : Loc) → IsAmong l locs → (t : Noted) × (text_at s.recorded l ≡ Some t)
+  pub count : length s.recorded.texts ≡ length locs + length old.recorded.texts
+
+-- an ask of this root was refused: no text is lost, those that are new are known, and where it met too many keys it has found and waits
+-- for so many
 pub record IsStopped (old : Kept) (root : Key) (s : Kept) (stop : Stop) : Type 0 where
   pub texts : AreOf old.recorded.texts s.recorded.texts
+  pub grown : HasGrown old s
   pub many : stop ≡ stops.TooMany → HasMany most_keys old root s

@@ -4,7 +4,8 @@
 //! text away that was kept, and one pass before the next ask forgets what stood on such texts, however many they are.
 //!
 //! [`Source`] takes a key as far as it comes: its text is fetched from the files where it is not kept, a look into the cache is a miss, and
-//! a key whose last step is due gets its outcome. Texts are parsed and last steps are made by a [`Worker`].
+//! a key whose last step is due gets its outcome. The walk of a text goes on where it stopped. Texts are parsed
+//! and last steps are made by a [`Worker`].
 //!
 //! ```text
 //! watcher.change(&loc, Some(bytes))?;
@@ -16,6 +17,7 @@
 mod sources;
 mod steps;
 mod watchers;
+mod ways;
 mod workers;
 
 pub use sources::Source;

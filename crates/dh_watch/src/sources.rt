@@ -8,16 +8,16 @@ ghost use Rattle.dh_record.specs.Rows.{key_named};
 ghost use Rattle.dh_watch_laws.specs.Running.{stage_at};
 ghost use Rattle.dh_watch_rows.specs.KeptRows.{AreBehind, IsGood, kept_of};
 ghost use Rattle.dh_watch_runs.specs.declared.resolving.Refusal.TheVariants as refusals;
-ghost use Rattle.dh_watch_runs.specs.Progressing.{IsProgress};
 ghost use Rattle.dh_watch_runs.specs.Resolving.{AsksFor, StaysOver};
-ghost use Rattle.dh_watch.specs.Sources.{HasFetched, HasMissed, IsSettled, LacksLook};
+ghost use Rattle.dh_watch.specs.Ways.{AreWays};
+ghost use Rattle.dh_watch.specs.Sources.{HasFetched, HasMissed, LacksLook};
 
 use crate::workers::Worker;
+use dh_demand::Headway;
 use dh_ports::DeskError;
-use dh_record::{Kind, Reach};
 use dh_watch_files::Files;
 use dh_watch_rows::Rows;
-use dh_watch_runs::{Progress, Refusal};
+use dh_watch_runs::Refusal;
 use std::alloc::Global;
 
 /// Files, what is kept of them, and who works on it.
@@ -26,29 +26,19 @@ pub struct Source<F: Files, W: Worker> {
     pub files: F,
     pub rows: Rows,
     pub worker: W,
+    /// How far the walks of texts are known to come, by the numbers of their keys; empty where nothing is known.
+    pub ways: Vec<Headway>,
 }
 
 impl<F: Files, W: Worker> Source<F, W> {
-    // How far a key has come that lacks no part of the record.
-    pub(crate) fn progress(&self, key: u32) -> Progress
-        requires good { IsGood self.now.rows }
-        requires inside { key < length self.now.rows.keys }
-        requires settled { IsSettled (stage_at (kept_of self.now.rows) (key_named self.now.rows.keys key)) }
-        ensures { IsProgress (keys_in self.now.rows.keys) (stage_at (kept_of self.now.rows) (key_named self.now.rows.keys key)) result }
-    {
-        match self.rows.reach(key) {
-            Reach::Due(Kind::Finish) => Progress::Due,
-            Reach::Due(Kind::Fetch | Kind::Look) => unreachable!(),
-            Reach::Wait(next) => Progress::Wait(next),
-        }
-    }
-
     // Fetches the text that a key lacks. Where that fails, what is kept stays as it was.
     pub(crate) fn fetch(&mut self, alloc: Global, key: u32) -> Result<(), Refusal>
         requires good { IsGood self.old.rows }
         requires inside { key < length self.old.rows.keys }
         requires lacks { stage_at (kept_of self.old.rows) (key_named self.old.rows.keys key) ≡ Lacks (TextOf (key_named self.old.rows.keys key).loc) }
+        requires ways { AreWays (kept_of self.old.rows) (keys_in self.old.rows.keys) self.old.ways.items }
         ensures good { IsGood self.new.rows }
+        ensures ways { AreWays (kept_of self.new.rows) (keys_in self.new.rows.keys) self.new.ways.items }
         ensures kept { OnOk result (HasFetched (kept_of self.old.rows) (key_named self.old.rows.keys key).loc (kept_of self.new.rows)) }
         ensures same { OnErr result (kept_of self.new.rows ≡ kept_of self.old.rows) }
         ensures keys { AreBehind self.old.rows.keys self.new.rows.keys }
@@ -77,7 +67,9 @@ impl<F: Files, W: Worker> Source<F, W> {
         requires good { IsGood self.old.rows }
         requires inside { key < length self.old.rows.keys }
         requires lacks { LacksLook (kept_of self.old.rows) (key_named self.old.rows.keys key) }
+        requires ways { AreWays (kept_of self.old.rows) (keys_in self.old.rows.keys) self.old.ways.items }
         ensures good { IsGood self.new.rows }
+        ensures ways { AreWays (kept_of self.new.rows) (keys_in self.new.rows.keys) self.new.ways.items }
         ensures kept { OnOk result (HasMissed (kept_of self.old.rows) (key_named self.old.rows.keys key) (kept_of self.new.rows)) }
         ensures same { OnErr result (kept_of self.new.rows ≡ kept_of self.old.rows) }
         ensures keys { self.new.rows.keys ≡ self.old.rows.keys }

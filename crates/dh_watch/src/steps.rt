@@ -3,6 +3,7 @@
 ghost use Rattle.std.specs.Prelude.{◌≡◌};
 
 use crate::sources::Source;
+use crate::ways::{look_on, progress};
 use crate::workers::Worker;
 use dh_record::{Kind, Reach};
 use dh_watch_files::Files;
@@ -11,9 +12,10 @@ use std::alloc::Global;
 
 impl<F: Files, W: Worker> Resolver for Source<F, W> {
     ghost use Rattle.dh_record.specs.Entering.{keys_in};
-    ghost use Rattle.dh_watch_rows.specs.KeptRows.{IsGood, kept_of};
+    ghost use Rattle.dh_watch_rows.specs.KeptRows.{kept_of};
+    ghost use Rattle.dh_watch.specs.Ways.{IsInOrder};
 
-    ghost is_good = { λ s. IsGood s.rows };
+    ghost is_good = { λ s. IsInOrder s.rows s.ways.items };
 
     ghost kept = { λ s. kept_of s.rows };
 
@@ -26,16 +28,16 @@ impl<F: Files, W: Worker> Resolver for Source<F, W> {
     ghost faults = { λ s. F.faults s.files };
 
     fn advance(&mut self, alloc: Global, key: u32) -> Result<Progress, Refusal> {
-        match self.rows.reach(key) {
+        match look_on(&self.rows, &mut self.ways, key) {
             Reach::Due(Kind::Finish) => Ok(Progress::Due),
             Reach::Wait(next) => Ok(Progress::Wait(next)),
             Reach::Due(Kind::Fetch) => {
                 self.fetch(alloc, key)?;
-                Ok(self.progress(key))
+                Ok(progress(&self.rows, &mut self.ways, key))
             }
             Reach::Due(Kind::Look) => {
                 self.miss(key)?;
-                Ok(self.progress(key))
+                Ok(progress(&self.rows, &mut self.ways, key))
             }
         }
     }

@@ -1,6 +1,6 @@
 //! What is kept of files from one ask to the next.
 
-ghost use Rattle.std.specs.Prelude.{◌≡◌, ◌≤◌, false, IfErr, IfOk, OnErr, OnOk};
+ghost use Rattle.std.specs.Prelude.{◌≡◌, ◌≤◌, ◌+◌, false, IfErr, IfOk, OnErr, OnOk};
 ghost use Rattle.dh_ports.specs.Counts.{Rose};
 ghost use Rattle.dh_ports.specs.declared.desks.DeskError.TheVariants as errors;
 ghost use Rattle.dh_record.specs.Entering.{keys_in};
@@ -11,6 +11,7 @@ ghost use Rattle.dh_watch_rows.specs.KeptRows.{kept_of};
 ghost use Rattle.dh_watch_rows.specs.Removing.{Forgets};
 ghost use Rattle.dh_watch_runs.specs.declared.deciding.Stop.TheVariants as stops;
 ghost use Rattle.dh_watch_runs.specs.Asks.{ComesTo};
+ghost use Rattle.dh_watch_runs.specs.Resolving.{AsksFor};
 ghost use Rattle.dh_watch.specs.Watchers.{IsNumber, IsStopped, IsWatched};
 
 use crate::sources::Source;
@@ -53,6 +54,7 @@ impl<F: Files, W: Worker> Watcher<F, W> {
                 files,
                 rows: Rows::new(alloc),
                 worker,
+                ways: Vec::new(alloc),
             },
             trail: Trail::new(alloc),
             stale: false,
@@ -75,6 +77,7 @@ impl<F: Files, W: Worker> Watcher<F, W> {
         ensures forgets { OnOk result (Forgets (kept_of self.old.source.rows) loc.now (kept_of self.new.source.rows)) }
         ensures same { OnErr result (F.now self.new.source.files ≡ F.now self.old.source.files) }
         ensures kept { OnErr result (self.new.source.rows ≡ self.old.source.rows) }
+        ensures asked { F.asked self.new.source.files ≡ F.asked self.old.source.files }
         ensures counted { F.faults self.old.source.files ≤ F.faults self.new.source.files }
         ensures quiet { OnOk result (F.faults self.new.source.files ≡ F.faults self.old.source.files) }
         ensures failed { IfErr result (λ e. e ≡ errors.Failed → Rose (F.faults self.old.source.files) (F.faults self.new.source.files)) }
@@ -107,7 +110,8 @@ impl<F: Files, W: Worker> Watcher<F, W> {
         self.stale = false;
     }
 
-    /// Resolves a key, over what is kept after [`Watcher::refresh`].
+    /// Resolves a key, over what is kept after [`Watcher::refresh`]. No more texts are asked for than are fetched, but for one where that
+    /// is refused. How far walks come is known again as they are made: an edit may have changed it.
     pub fn resolve(&mut self, alloc: Global, key: Key) -> Result<Resolved, Stop>
         requires watched { IsWatched (F.now self.old.source.files) self.old.source.rows self.old.stale }
         requires fresh { self.old.stale ≡ false }
@@ -117,6 +121,8 @@ impl<F: Files, W: Worker> Watcher<F, W> {
         ensures ended { IfOk result (λ r. ComesTo key (keys_in self.new.source.rows.keys) (kept_of self.new.source.rows) r.end) }
         ensures number { IfOk result (λ r. IsNumber self.new.source.rows.keys key r.root) }
         ensures stopped { IfErr result (IsStopped (kept_of self.old.source.rows) key (kept_of self.new.source.rows)) }
+        ensures asks { IfOk result (λ r. F.asked self.new.source.files ≤ F.asked self.old.source.files + r.fetched) }
+        ensures asks_one { OnErr result (AsksFor 1 (F.asked self.old.source.files) (kept_of self.old.source.rows) (F.asked self.new.source.files) (kept_of self.new.source.rows)) }
         ensures now { F.now self.new.source.files ≡ F.now self.old.source.files }
         ensures counted { F.faults self.old.source.files ≤ F.faults self.new.source.files }
         ensures quiet { OnOk result (F.faults self.new.source.files ≡ F.faults self.old.source.files) }
@@ -127,6 +133,7 @@ impl<F: Files, W: Worker> Watcher<F, W> {
             Ok(root) => root,
             Err(AllocError) => return Err(Stop::Memory),
         };
+        self.source.ways.clear();
         match ask(alloc, &mut self.source, &mut self.trail, root) {
             Ok(Resolution { end, fetched }) => Ok(Resolved { root, end, fetched }),
             Err(stop) => Err(stop),

@@ -10,6 +10,8 @@
 
 mod files;
 mod mem_files;
+mod ordered_locs;
 
 pub use files::Files;
-pub use mem_files::{MemFile, MemFiles};
+pub use mem_files::MemFiles;
+pub use ordered_locs::OrderedLoc;

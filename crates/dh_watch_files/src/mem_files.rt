@@ -1,7 +1,6 @@
 //! Files in memory.
 
-ghost use Rattle.std.specs.Prelude.{◌≡◌, ◌≤◌, [], ◌∷◌, ◌++◌, ◌<◌, take, vec_len, vec_capacity, Some, None, IfOk, OnOk, OnErr};
-ghost use Rattle.std.specs.Option.{option_copied};
+ghost use Rattle.std.specs.Prelude.{◌≡◌, [], take, Some, IfOk, OnOk, OnErr};
 ghost use Rattle.dh_syntax.specs.Expressions.SameTree.{loc_eq};
 ghost use Rattle.dh_imports.specs.Records.{lookup};
 ghost use Rattle.dh_watch_laws.specs.Contents.{most_fetched, IsEdited};
@@ -9,22 +8,16 @@ ghost use Rattle.dh_watch_files.specs.Contents.{got_of};
 ghost use Rattle.dh_watch_files.specs.MemContents.{pairs_of};
 
 use crate::files::Files;
+use crate::ordered_locs::OrderedLoc;
 use dh_ports::{CallList, DeskError, Found, Got};
 use dh_syntax::{Bytes, Loc, MOST_BYTES};
-use dh_terms::is_same_loc;
 use std::alloc::{AllocError, Global};
-
-/// The bytes at a location.
-#[derive(Debug, Drop)]
-pub struct MemFile {
-    pub loc: Loc,
-    pub bytes: Bytes,
-}
+use std::collections::BTreeMap;
 
 /// Files in memory, some of whose calls may be set to fail: their numbers, from 1, count all calls. What was put last counts.
 pub struct MemFiles {
     alloc: Global,
-    files: Vec<MemFile>,
+    files: BTreeMap<OrderedLoc, Bytes>,
     fails: CallList,
     made: u64,
     asked: u64,
@@ -54,7 +47,7 @@ impl MemFiles {
     {
         MemFiles {
             alloc,
-            files: Vec::new(alloc),
+            files: BTreeMap::new(alloc),
             fails,
             made: 0,
             asked: 0,
@@ -73,22 +66,6 @@ impl MemFiles {
     }
 }
 
-// The bytes at a location, by the first file there.
-fn file_at<'a>(files: &'a [MemFile], loc: &Loc) -> Option<&'a Bytes>
-    ensures { option_copied result ≡ lookup loc_eq (pairs_of files.now) loc.now }
-{
-    match files {
-        [] => None,
-        [file, rest @ ..] => {
-            if is_same_loc(&file.loc, loc) {
-                Some(&file.bytes)
-            } else {
-                file_at(rest, loc)
-            }
-        }
-    }
-}
-
 // The first bytes of a text, as many as are fetched.
 fn first_bytes(alloc: Global, bytes: &[u8]) -> Result<Bytes, AllocError>
     ensures { IfOk result (λ b. b ≡ take most_fetched bytes.now) }
@@ -98,10 +75,16 @@ fn first_bytes(alloc: Global, bytes: &[u8]) -> Result<Bytes, AllocError>
     Ok(Bytes::of(first))
 }
 
-fn found_at(alloc: Global, files: &[MemFile], loc: &Loc) -> Result<Got, AllocError>
-    ensures { IfOk result (λ got. got ≡ got_of (lookup loc_eq (pairs_of files.now) loc.now)) }
+// What is found at a location.
+fn found_at(
+    alloc: Global,
+    files: &BTreeMap<OrderedLoc, Bytes>,
+    loc: &Loc,
+) -> Result<Got, AllocError>
+    ensures { IfOk result (λ got. got ≡ got_of (lookup loc_eq (pairs_of files.now.entries) loc.now)) }
 {
-    match file_at(files, loc) {
+    let key = OrderedLoc::copied(alloc, loc)?;
+    match files.get(&key) {
         None => Ok(Got::Absent),
         Some(bytes) => Ok(Got::Found(Found {
             bytes: first_bytes(alloc, bytes.as_slice())?,
@@ -110,33 +93,23 @@ fn found_at(alloc: Global, files: &[MemFile], loc: &Loc) -> Result<Got, AllocErr
     }
 }
 
-// Takes out what is at a location.
-fn remove(files: &mut Vec<MemFile>, loc: &Loc)
-    ensures gone { IsEdited (pairs_of files.old.items) loc.now None (pairs_of files.new.items) }
-    ensures bound { vec_len files.new ≤ vec_len files.old }
-    ensures capacity { vec_capacity files.new ≡ vec_capacity files.old }
+// Puts bytes in the place of what is at a location, or takes out what is there.
+fn edit(
+    files: &mut BTreeMap<OrderedLoc, Bytes>,
+    key: OrderedLoc,
+    bytes: Option<Bytes>,
+) -> Result<(), AllocError>
+    ensures edited { OnOk result (IsEdited (pairs_of files.old.entries) key.loc bytes (pairs_of files.new.entries)) }
+    ensures same { OnErr result (files.new.entries ≡ files.old.entries) }
 {
-    files.retain(|file| !is_same_loc(&file.loc, loc));
-}
-
-// Puts a file behind the others, where there is room.
-fn add(files: &mut Vec<MemFile>, file: MemFile)
-    requires { vec_len files.old < vec_capacity files.old }
-    ensures { files.new.items ≡ files.old.items ++ file ∷ [] }
-{
-    let Ok(()) = files.push(file) else {
-        unreachable!()
-    };
-}
-
-// Puts a file in the place of what is at its location.
-fn replace(files: &mut Vec<MemFile>, file: MemFile) -> Result<(), AllocError>
-    ensures put { OnOk result (IsEdited (pairs_of files.old.items) file.loc (Some file.bytes) (pairs_of files.new.items)) }
-    ensures same { OnErr result (files.new.items ≡ files.old.items) }
-{
-    files.reserve(1)?;
-    remove(files, &file.loc);
-    add(files, file);
+    match bytes {
+        None => {
+            let _before = files.remove(&key);
+        }
+        Some(bytes) => {
+            let _before = files.insert(key, bytes)?;
+        }
+    }
     Ok(())
 }
 
@@ -156,7 +129,7 @@ impl Files for MemFiles {
             self.failed = self.failed.saturating_add(1);
             return Err(DeskError::Failed);
         }
-        let got = found_at(alloc, self.files.as_slice(), loc)?;
+        let got = found_at(alloc, &self.files, loc)?;
         Ok(got)
     }
 
@@ -166,13 +139,8 @@ impl Files for MemFiles {
             self.failed = self.failed.saturating_add(1);
             return Err(DeskError::Failed);
         }
-        match bytes {
-            None => remove(&mut self.files, loc),
-            Some(bytes) => {
-                let loc = loc.copied(self.alloc)?;
-                replace(&mut self.files, MemFile { loc, bytes })?;
-            }
-        }
+        let key = OrderedLoc::copied(self.alloc, loc)?;
+        edit(&mut self.files, key, bytes)?;
         Ok(())
     }
 }

@@ -14,14 +14,17 @@ use Rattle.dh_imports.specs.Records as found
 use Rattle.dh_imports.specs.Records.{IsParsed}
 use Rattle.dh_imports.specs.Resolver.{of_plan, stage}
 use Rattle.dh_laws.proofs.KeyOrder.{bool-case, some-equal, true_false, key_eq-true, key_eq-itself}
+use Rattle.dh_demand.specs.declared.headways.Headway.{Headway}
 use Rattle.dh_demand.specs.Results.{ask_of, number_of, outcome_at}
 use Rattle.dh_record.specs.declared.rows.recorded.Entrant.{Entrant}
 use Rattle.dh_record.specs.Due.{AreSpelled, IsSpelled}
 use Rattle.dh_record.specs.Entering.{AreDistinct, keys_in}
 use Rattle.dh_record.specs.Reading.{record_by}
 use Rattle.dh_record.specs.Rows.{key_named, rows_of}
+use Rattle.dh_record.specs.Ways.{IsWay}
 use Rattle.dh_record.proofs.Decided.{number_itself}
 use Rattle.dh_record.proofs.Reading.{asked_number, plan_limits}
+use Rattle.dh_record.proofs.Ways.{way-same}
 use Rattle.dh_watch_laws.specs.Kept.{known}
 use Rattle.dh_watch_laws.specs.Running.{stage_at}
 use Rattle.dh_watch_rows.specs.declared.rows.Rows.{Rows}
@@ -30,6 +33,17 @@ use Rattle.dh_watch_rows.specs.KeptRows.{IsGood, kept_of}
 -- the stage of a key needs no limits
 pub stage_rows : (t : Rows) → IsGood t → (k : Key) → stage_at (kept_of t) k ≡ stage (record_by t.texts.items t.looks.items) (ask_of (rows_of t.keys)) k
 stage_rows t g k = λ i. of_plan (g.asks i) k (plan_limits (kept_of t).recorded k i)
+
+-- how far a walk comes needs none either
+pub way_rows : (t : Rows) → IsGood t → (k : Key) (w : Headway) → IsWay (kept_of t).recorded (known (kept_of t).outcomes) k w → IsWay (record_by t.texts.items t.looks.items) (ask_of (rows_of t.keys)) k w
+way_rows t g k w h =
+    subst (λ a. IsWay (record_by t.texts.items t.looks.items) a k w) g.asks
+    (way-same (kept_of t).recorded (record_by t.texts.items t.looks.items) (known (kept_of t).outcomes) k (sym (plan_limits (kept_of t).recorded k)) w h)
+
+pub rows_way : (t : Rows) → IsGood t → (k : Key) (w : Headway) → IsWay (record_by t.texts.items t.looks.items) (ask_of (rows_of t.keys)) k w → IsWay (kept_of t).recorded (known (kept_of t).outcomes) k w
+rows_way t g k w h =
+    way-same (record_by t.texts.items t.looks.items) (kept_of t).recorded (known (kept_of t).outcomes) k (plan_limits (kept_of t).recorded k) w
+    (subst (λ a. IsWay (record_by t.texts.items t.looks.items) a k w) (sym g.asks) h)
 
 -- ---- what was recorded can be spelled
 

@@ -2,9 +2,11 @@
 //!
 //! The outcomes stand in the order in which they were found, each by the earlier ones, and contracts see them with the latest first, as
 //! [`kept_of`] shows the rows. A text is recorded with numbers for the keys of its imports; a key whose last step is due gets its outcome.
+//! How far the walk of a text comes is the caller's to keep, so that it is not begun again.
 //!
 //! ```text
-//! match rows.reach(n) {
+//! let (reach, way) = rows.reach(n, Headway::Unknown);
+//! match reach {
 //!     Reach::Due(Kind::Fetch) => rows.record_text(loc, got, scan)?,
 //!     Reach::Due(Kind::Look) => rows.record_miss(digest)?,
 //!     Reach::Due(Kind::Finish) => rows.decide(n, done)?,

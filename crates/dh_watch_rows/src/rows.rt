@@ -6,12 +6,13 @@ ghost use Rattle.dh_record.specs.Due.{IsItem};
 ghost use Rattle.dh_record.specs.Reading.{IsReach};
 ghost use Rattle.dh_record.specs.Rows.{key_named, rows_of};
 ghost use Rattle.dh_record.specs.Values.{IsFit};
+ghost use Rattle.dh_record.specs.Ways.{IsWay};
 ghost use Rattle.dh_watch_laws.specs.Kept.{known, nothing_kept};
 ghost use Rattle.dh_watch_laws.specs.Running.{stage_at};
 ghost use Rattle.dh_watch_rows.specs.KeptRows.{IsGood, kept_of};
 
-use dh_demand::Results;
-use dh_record::{Entrants, Item, Look, Looks, Order, Reach, Text, Texts, due_item, look_ahead};
+use dh_demand::{Headway, Results};
+use dh_record::{Entrants, Item, Look, Looks, Order, Reach, Text, Texts, due_item, look_on};
 use std::alloc::{AllocError, Global};
 
 /// The keys with their outcomes, the texts and the looks, by their numbers.
@@ -84,15 +85,17 @@ impl Rows {
         self.texts.len()
     }
 
-    /// What is left to do for the key of this number.
-    pub fn reach(&self, n: u32) -> Reach
+    /// What is left to do for the key of this number, where the walk of its text is known to come so far; and how far it comes then.
+    pub fn reach(&self, n: u32, way: Headway) -> (Reach, Headway)
         requires good { IsGood self.now }
         requires inside { n < length self.now.keys }
-        ensures { IsReach (rows_of self.now.keys) (key_named self.now.keys n) (stage_at (kept_of self.now) (key_named self.now.keys n)) result }
+        requires way { IsWay (kept_of self.now).recorded (known (kept_of self.now).outcomes) (key_named self.now.keys n) way }
+        ensures reach { IsReach (rows_of self.now.keys) (key_named self.now.keys n) (stage_at (kept_of self.now) (key_named self.now.keys n)) result.0 }
+        ensures way { IsWay (kept_of self.now).recorded (known (kept_of self.now).outcomes) (key_named self.now.keys n) result.1 }
     {
         let texts = self.found_texts();
         let looks = self.found_looks();
-        look_ahead(&self.keys, &texts, &looks, n)
+        look_on(&self.keys, &texts, &looks, n, way)
     }
 
     /// The item of the key of this number, whose last step is due.

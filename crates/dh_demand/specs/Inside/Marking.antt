@@ -1,12 +1,16 @@
 -- Marks of keys that a walk asks.
-use Rattle.std.specs.Prelude.{◌≡◌, ◌||◌, ℕ, Bool, true, List, [], ◌∷◌, filter, Option, Some, None, is_none, slice_set}
+use Rattle.std.specs.Prelude.{ℕ, Bool, true, ◌&&◌, ◌||◌, if◌then◌else◌, List, [], ◌∷◌, filter, Option, Some, None, is_none, slice_set}
 use Rattle.dh_syntax.specs.declared.locations.Key.{Key}
 use Rattle.dh_syntax.specs.declared.locations.Loc.{Loc}
-use Rattle.dh_imports.specs.Walk.{Fails, Turns, Ending, Goes, Stops, Circles, Course, else_by, all_courses, Ask}
+use Rattle.dh_imports.specs.declared.outcomes.Origin.TheVariants.{Made}
+use Rattle.dh_syntax.specs.Expressions.Tree.{Leaf}
+use Rattle.dh_imports.specs.Outcomes.{Outcome, Good}
+use Rattle.dh_imports.specs.Walk.{Ask, is_sane}
 use Rattle.dh_demand.specs.declared.ends.Next.{Next}
 use Rattle.dh_demand.specs.declared.ends.Next.TheVariants as next
-use Rattle.dh_demand.specs.Nexts.{ComesTo}
 use Rattle.dh_demand.specs.Results.{Row, number_of, ask_of}
+use Rattle.dh_demand.specs.Scans.{text_key}
+use Rattle.dh_demand.specs.Inside.Seen.{Sight}
 
 abbrev pub mark : Option ℕ → List Bool → List Bool
 mark None marks = marks
@@ -17,26 +21,38 @@ abbrev pub marked : List Row → List Key → List Bool → List Bool
 marked rows [] marks = marks
 marked rows (k ∷ ks) marks = marked rows ks (mark (number_of rows k) marks)
 
--- how a course ends, by the import that stops it
-abbrev pub IsEnd : Option Loc → List Row → Ending → Next → Type 0
-IsEnd parent rows Goes next.Ready = Unit {0}
-IsEnd parent rows (Stops b) (next.Fault e) = ComesTo parent rows e (Fails b)
-IsEnd parent rows Circles (next.Fault e) = (j : Key) × ComesTo parent rows e (Turns j)
-IsEnd parent rows _ _ = ⊥
-
 -- all of these keys, or those without an outcome
 abbrev pub picked : Bool → Ask → List Key → List Key
 picked all ask ks = filter (λ k. all || is_none (ask k)) ks
 
--- after a course the keys that it asks are marked: all, or those without an outcome
-pub record Wanting (all : Bool) (parent : Option Loc) (rows : List Row) (c : Course) (before : List Bool) (n : Next) (marks : List Bool) : Type 0 where
-  pub end : IsEnd parent rows c.ending n
-  pub marks_are : marks ≡ marked rows (picked all (ask_of rows) c.asked) before
+-- a key without an outcome counts as one with some value that any text may read
+abbrev pub good_or : Option Outcome → Outcome
+good_or None = Good (Leaf (record { name = []; index = 0 })) Made
+good_or (Some o) = o
 
-abbrev pub nothing_asked : Course
-nothing_asked = record { asked = []; ending = Goes }
+abbrev pub assumed : Ask → Ask
+assumed ask k = Some (good_or (ask k))
 
--- the course of `l ? r`, by the courses of its parts
-abbrev pub choice_course : List Course → Course
-choice_course (c ∷ d ∷ []) = else_by c.ending c d
-choice_course cs = all_courses cs
+-- whether an import is marked: the key of any sane one, or one without an outcome
+abbrev pub is_noted : Bool → Option Loc → Ask → Key → Bool
+is_noted all parent ask k = is_sane (text_key parent) k && (all || is_none (ask k))
+
+-- the same by what a visit says, and what comes next then
+abbrev pub noting : Bool → Bool → Next → Bool
+noting all sane (next.Need m) = true
+noting all sane next.Ready = all
+noting all sane (next.Fault e) = all && sane
+
+abbrev pub passing : Next → Next
+passing (next.Need m) = next.Ready
+passing next.Ready = next.Ready
+passing (next.Fault e) = next.Fault e
+
+-- the walk of a text at this location that marks them
+abbrev pub marking : Bool → Option Loc → List Row → Sight Bool
+marking all parent rows = record {
+  parent = parent;
+  rows = rows;
+  ask = assumed (ask_of rows);
+  note = λ left k marks. mark (if is_noted all parent (ask_of rows) k then number_of rows k else None) marks;
+}

@@ -73,7 +73,7 @@ fn enter(alloc: Global, keys: &mut Entrants, key: &Key) -> Result<u32, AllocErro
     add(alloc, keys, key, Some(unfrozen))
 }
 
-// The same key without its digest.
+// The key without its digest.
 fn bare_copy(alloc: Global, key: &Key) -> Result<Key, AllocError>
     ensures { IfOk result (λ k. k ≡ bare key.now) }
 {

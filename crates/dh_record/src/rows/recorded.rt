@@ -27,7 +27,7 @@ pub struct Look {
 pub struct Entrant {
     pub key: Key,
     pub outcome: Option<Outcome>,
-    /// The same key, while there is no outcome: a loop mark blames it, and takes no memory.
+    /// A copy of `key`, while there is no outcome: a loop mark blames it, and takes no memory.
     pub own: Option<Key>,
     /// The text of its location, by which keys are ordered.
     pub text: Piece,

@@ -12,6 +12,7 @@ use dh_imports::{Blame, Origin, Why};
 use dh_syntax::{Bytes, Digest, Key, Loc, NormFault, ParseFault, TypeFault};
 use dh_terms::{is_same_key, is_same_loc};
 
+/// Whether the bytes are equal.
 pub fn is_same_bytes(a: &Bytes, b: &Bytes) -> bool
     ensures { result ≡ bytes_eq a.now b.now }
 {
@@ -29,6 +30,7 @@ pub fn is_same_allow(a: &Option<Bytes>, b: &Option<Bytes>) -> bool
     }
 }
 
+/// Whether two origins are equal.
 pub fn is_same_origin(o: &Origin, p: &Origin) -> bool
     ensures { result ≡ origin_eq o.now p.now }
 {

@@ -38,6 +38,12 @@ literal_ready rows ks es h p = (
 pub next-requires : goal.next-requires
 next-requires g c = literal_fits _ _ _ c.new.ensures c.new-2.ensures
 
+pub next_from-first-requires-clause-fits : goal.next_from-first-requires-clause-fits
+next_from-first-requires-clause-fits g c = literal_fits _ _ _ c.new.ensures c.new-2.ensures
+
+pub next_from-second-requires-clause-fits : goal.next_from-second-requires-clause-fits
+next_from-second-requires-clause-fits g c = literal_fits _ _ _ c.new.ensures c.new-2.ensures
+
 pub wanted-requires-clause-fits : goal.wanted-requires-clause-fits
 wanted-requires-clause-fits g c = literal_fits _ _ _ c.new.ensures c.new-2.ensures
 

@@ -3,12 +3,12 @@ use Rattle.std.proofs.lemmas.List.{append_assoc}
 use Rattle.std.specs.Option.{option_copied}
 use Rattle.dh_syntax.specs.Expressions.Bridge.{term, row_of}
 use Rattle.dh_imports.specs.TextPaths.{way_on, way_into, text_path, text_paths}
-use Rattle.dh_imports.specs.Walk.{Ready, choosing, keys_of_row, walk, walks}
+use Rattle.dh_imports.specs.Walk.{choosing, keys_of_row, walks}
 use Rattle.dh_demand.specs.declared.ends.Next.TheVariants as next
 use Rattle.dh_demand.specs.Results.{ask_of}
 use Rattle.dh_demand.specs.Scans.{text_key}
 use Rattle.dh_demand.proofs.Edges.{inside-drop, begins_at_item}
-use Rattle.dh_demand.proofs.Nexting.{as_begins, choice_keys, other_keys, two_begin, unbuilt}
+use Rattle.dh_demand.proofs.Nexting.{as_begins, choice_keys, other_keys, two_begin}
 use Rattle.dh_demand.proofs.Ways.{on_ok, no_more, on_part, variable_way, import_way, other_way, choice_way, no_choice_way, left_way, right_way, on_the_way-start, on_the_way-item, at_the_part, no_such_part}
 use Rattle.dh_demand.proofs.text_paths.+text_paths.Goals as goal
 
@@ -66,7 +66,7 @@ push_side-returns-in_ok-push g t c =
     (λ h b.
     let bs = two_begin parent rows ks c.index-kids-0.result c.index-kids-1.result _ _ two c.index-kids-0.is c.index-kids-1.is c.next_in-first.ensures.rest
     (as_begins parent rows _ _ _ (ap (λ ks. keys_of_row parent (row_of ks)) (sym c.as_slice-kids.ensures)) b) in
-    let first = unbuilt parent rows (walk (text_key parent) (ask_of rows) (term c.index-kids-0.result.body)) (λ e. tt {0}) _ (c.next_in-first.ensures.next bs.0 (Ready (tt {0})) tt) in
+    let first = c.next_in-first.ensures.next bs.0 in
     let ready : c.next_in-first.result.0 ≡ next.Ready = search rules in
     h bs.0 ∙ ap (λ w. w ++ left) c.in_ok-push.ensures.items ∙ append_assoc way (0 ∷ []) left
     ∙ along (λ ks. way ++ 0 ∷ left ≡ way ++ way_into choosing (walks (text_key parent) (ask_of rows) (row_of ks)) (text_paths (text_key parent) (ask_of rows) (row_of ks)) c.args.path.now) c.as_slice-kids.ensures
@@ -85,7 +85,7 @@ push_side-returns-in_ok-push-2 g t c =
     (λ h b.
     let bs = two_begin parent rows ks c.index-kids-0.result c.index-kids-1.result _ _ two c.index-kids-0.is c.index-kids-1.is c.next_in-first.ensures.rest
     (as_begins parent rows _ _ _ (ap (λ ks. keys_of_row parent (row_of ks)) (sym c.as_slice-kids.ensures)) b) in
-    let first = unbuilt parent rows (walk (text_key parent) (ask_of rows) (term c.index-kids-0.result.body)) (λ e. tt {0}) _ (c.next_in-first.ensures.next bs.0 (Ready (tt {0})) tt) in
+    let first = c.next_in-first.ensures.next bs.0 in
     h bs.1 ∙ ap (λ w. w ++ right) c.in_ok-push-2.ensures.items ∙ append_assoc way (1 ∷ []) right
     ∙ along (λ ks. way ++ 1 ∷ right ≡ way ++ way_into choosing (walks (text_key parent) (ask_of rows) (row_of ks)) (text_paths (text_key parent) (ask_of rows) (row_of ks)) c.args.path.now) c.as_slice-kids.ensures
     (ap (λ m. way ++ m) (sym (right_way parent rows ks c.index-kids-0.result c.index-kids-1.result _ c.args.path.now two c.index-kids-0.is c.index-kids-1.is first (λ e. search rules)))))

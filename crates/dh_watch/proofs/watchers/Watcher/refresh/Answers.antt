@@ -1,5 +1,5 @@
 use Rattle.std.specs.Prelude.{false, refl}
-use Rattle.std.proofs.Common.{ap, ◌∙◌}
+use Rattle.std.proofs.Common.{ap}
 use Rattle.dh_watch.proofs.Watching.{watched-swept}
 use Rattle.dh_watch.proofs.watchers.Watcher.refresh.Goals as goal
 

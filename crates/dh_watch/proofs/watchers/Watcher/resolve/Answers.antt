@@ -3,14 +3,23 @@ use Rattle.std.proofs.Common.{subst}
 use Rattle.dh_record.specs.Entering.{keys_in}
 use Rattle.dh_watch_laws.specs.Asking.{Asked}
 use Rattle.dh_watch_rows.specs.KeptRows.{kept_of}
+use Rattle.dh_watch_runs.specs.declared.deciding.Stop.TheVariants as stops
 use Rattle.dh_watch_runs.specs.Asks.{ComesTo, IsRefused}
-use Rattle.dh_watch.proofs.Watching.{number-is, root-named, stopped-run, watched-same}
+use Rattle.dh_watch_runs.specs.Resolving.{AsksFor, named}
+use Rattle.dh_watch.proofs.Growing.{asked-most, asked-none}
+use Rattle.dh_watch.proofs.Watching.{number-is, root-named, stopped-none, stopped-run, watched-same}
 use Rattle.dh_watch.proofs.watchers.Watcher.resolve.Goals as goal
 
 pub returns-in-Err-clause-watched : goal.returns-in-Err-clause-watched
 returns-in-Err-clause-watched g c =
     watched-same (g.F.Files.now c.args.self.now.source.files) (g.F.Files.now c.args.self.now.source.files) c.args.self.now.source.rows c.enter.new.self c.args.self.now.stale c.requires.watched refl
     c.enter.ensures.good c.enter.ensures.kept
+
+pub returns-in-Err-clause-stopped : goal.returns-in-Err-clause-stopped
+returns-in-Err-clause-stopped g c = stopped-none (kept_of c.args.self.now.source.rows) c.args.key (kept_of c.enter.new.self) stops.Memory c.enter.ensures.kept refl
+
+pub returns-in-Err-clause-asks_one : goal.returns-in-Err-clause-asks_one
+returns-in-Err-clause-asks_one g c = asked-none (kept_of c.args.self.now.source.rows) (kept_of c.enter.new.self) (g.F.Files.asked c.args.self.now.source.files) c.enter.ensures.kept
 
 pub ask-requires-clause-inside : goal.ask-requires-clause-inside
 ask-requires-clause-inside g c = (root-named c.enter.new.self.keys c.args.key c.in-Ok.root c.in-Ok.ensures.number).0
@@ -29,6 +38,16 @@ returns-in-Ok-ask-clause-ended g c =
 
 pub returns-in-Ok-ask-clause-number : goal.returns-in-Ok-ask-clause-number
 returns-in-Ok-ask-clause-number g c = number-is c.enter.new.self.keys c.ask.new.resolver.rows.keys c.args.key c.in-Ok.root c.in-Ok.ensures.number c.ask.ensures.keys
+
+pub returns-in-Ok-ask-clause-asks : goal.returns-in-Ok-ask-clause-asks
+returns-in-Ok-ask-clause-asks g c =
+    asked-most (kept_of c.enter.new.self) (named (keys_in c.enter.new.self.keys) c.in-Ok.root) (kept_of c.ask.new.resolver.rows) c.in-Ok-ask.field-0.fetched
+    (g.F.Files.asked c.args.self.now.source.files) (g.F.Files.asked c.ask.new.resolver.files) c.in-Ok-ask.ensures.asked c.in-Ok-ask.ensures.asks
+
+pub returns-in-Err-ask-clause-asks_one : goal.returns-in-Err-ask-clause-asks_one
+returns-in-Err-ask-clause-asks_one g c =
+    let asked = g.F.Files.asked c.args.self.now.source.files in
+    subst (λ old. AsksFor 1 asked old (g.F.Files.asked c.ask.new.resolver.files) (kept_of c.ask.new.resolver.rows)) c.enter.ensures.kept c.in-Err-ask.ensures.asks_one
 
 pub returns-in-Err-ask-clause-stopped : goal.returns-in-Err-ask-clause-stopped
 returns-in-Err-ask-clause-stopped g c =
