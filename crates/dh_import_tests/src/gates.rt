@@ -1,4 +1,4 @@
-//! Runs past a slow gate: each fetch passes it first, and a worker that waits is woken by a delivery and by a release.
+//! Runs past a slow gate: each fetch passes it first, and a worker that waits is woken by a release and at the end.
 
 ghost use Rattle.std.specs.Prelude.{None};
 

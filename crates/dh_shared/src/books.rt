@@ -29,7 +29,7 @@ impl<N: Counted> Model for Books<N> {
     ghost view = { λ b. record { parts = 0; claims = b.claims.total; kept = b.kept.total; releases = b.releases.total; lates = b.lates.total; fetches = b.fetches.total; failed = b.failed.total; overs = b.overs.total; returns = b.returns.total } };
 }
 
-/// The same number of parts of each of the eight, with what was counted on them.
+/// Equally many parts of each of the eight ledgers, with what was counted on them.
 #[derive(Drop)]
 pub struct Shares<N: Counted> {
     claims: Share<Claims<N>>,

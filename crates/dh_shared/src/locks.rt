@@ -18,12 +18,22 @@ use dh_table::{Claimed, News, Table, Taken, Ticket};
 use std::alloc::Global;
 use std::marker::PhantomData;
 
+/// Who is to be woken after a claim.
+#[derive(Clone, Copy, Debug)]
+pub(crate) enum Wakes {
+    Nobody,
+    One,
+    All,
+}
+
 /// The table of this root with the books: each book has the number of steps of its kind that the history has.
 #[derive(Drop)]
 pub struct Locked<W: World, Q: Rooted, N: Counted> {
     pub(crate) alloc: Global,
     pub(crate) table: Table<W>,
     pub(crate) books: Books<N>,
+    // How many workers wait. No clause speaks of it.
+    pub(crate) waiting: usize,
     pub(crate) of: PhantomData<Q>,
     ghost root_in: { table.root.expr ≡ Q.root } by { Prim.hlevel (codes, rows.the_row.coded) },
     ghost claims_in: { count_by is_claim table.history ≡ books.claims },
@@ -60,6 +70,7 @@ impl<W: World, Q: Rooted, N: Counted> Locked<W, Q, N> {
             alloc,
             table,
             books,
+            waiting: _,
             of: _,
         } = self;
         match draw(table, seat.worker) {
@@ -85,6 +96,32 @@ impl<W: World, Q: Rooted, N: Counted> Locked<W, Q, N> {
         }
     }
 
+    /// Who is to be woken after a claim that found this: one worker where there is another task, and all where the claims come to an end
+    /// or this worker does.
+    pub(crate) fn wakes_after(&mut self, turn: &Turn) -> Wakes {
+        match turn {
+            Turn::Over | Turn::Memory => Wakes::All,
+            Turn::Idle => Wakes::Nobody,
+            Turn::Work(_ticket, _work) => {
+                if self.waiting == 0 || self.table.idle() {
+                    Wakes::Nobody
+                } else {
+                    Wakes::One
+                }
+            }
+        }
+    }
+
+    /// One more worker waits.
+    pub(crate) fn begin_waiting(&mut self) {
+        self.waiting = self.waiting.saturating_add(1);
+    }
+
+    /// One worker less waits.
+    pub(crate) fn end_waiting(&mut self) {
+        self.waiting = self.waiting.saturating_sub(1);
+    }
+
     /// Whether a claim would wait.
     pub(crate) fn is_idle(&mut self) -> bool {
         self.table.idle()
@@ -99,6 +136,7 @@ impl<W: World, Q: Rooted, N: Counted> Locked<W, Q, N> {
             alloc: _,
             table,
             books,
+            waiting: _,
             of: _,
         } = self;
         books.add_return(&mut seat.shares);
@@ -132,6 +170,7 @@ impl<W: World, Q: Rooted, N: Counted> Locked<W, Q, N> {
             alloc: _,
             table,
             books,
+            waiting: _,
             of: _,
         } = self;
         let failed = tells_failure(&news);

@@ -9,7 +9,7 @@ ghost use Rattle.dh_shared.specs.Turns.{Turns, Hands, Frees, Brings};
 
 use crate::books::{Books, Seat, Shares};
 use crate::ledgers::Blanks;
-use crate::locks::Locked;
+use crate::locks::{Locked, Wakes};
 use crate::runs::{Counted, Rooted};
 use crate::turns::Turn;
 use dh_ports::World;
@@ -57,29 +57,55 @@ impl<W: World, Q: Rooted, N: Counted> SharedTable<W, Q, N> {
         ))
     }
 
-    /// One claim under the lock.
+    /// One claim under the lock. Who takes a task wakes one that waits where there is another task, and who finds that there will be none
+    /// wakes all, of which no clause speaks.
     pub fn claim<T: Wait>(&self, rt: &T, seat: &mut Seat<N>) -> Turn
         ensures turn { Turns seat.old.shares seat.new.shares result }
         ensures worker { seat.new.worker ≡ seat.old.worker }
     {
-        self.locked.lock(rt).claim(seat)
+        let (turn, wakes) = self.claim_locked(rt, seat);
+        match wakes {
+            Wakes::Nobody => {}
+            Wakes::One => self.changed.notify_one(),
+            Wakes::All => self.changed.notify_all(),
+        }
+        turn
+    }
+
+    // One claim, and who is to be woken once the lock is free.
+    fn claim_locked<T: Wait>(&self, rt: &T, seat: &mut Seat<N>) -> (Turn, Wakes)
+        ensures turn { Turns seat.old.shares seat.new.shares result.0 }
+        ensures worker { seat.new.worker ≡ seat.old.worker }
+    {
+        let mut locked = self.locked.lock(rt);
+        let turn = locked.claim(seat);
+        let wakes = locked.wakes_after(&turn);
+        (turn, wakes)
     }
 
     /// Waits until the table is not idle. No clause says so, since none can speak of the table under the lock.
     pub fn wait<T: Wait>(&self, rt: &T, _seat: &Seat<N>) {
-        let guard = self.locked.lock(rt);
-        self.changed
+        let mut guard = self.locked.lock(rt);
+        guard.begin_waiting();
+        let mut guard = self
+            .changed
             .wait_while(rt, guard, |locked| locked.is_idle());
+        guard.end_waiting();
     }
 
-    /// One delivery under the lock. It wakes those who wait, of which no clause speaks.
+    /// One delivery under the lock. Who delivers claims next, and wakes others then. Where nothing was delivered all are woken, of which no
+    /// clause speaks.
     pub fn deliver<T: Wait>(&self, rt: &T, seat: &mut Seat<N>, ticket: Ticket, news: News) -> Taken
         requires { Brings W.told W.shelved news }
         ensures hands { Hands seat.old.shares seat.new.shares news result }
         ensures worker { seat.new.worker ≡ seat.old.worker }
     {
         let taken = self.locked.lock(rt).deliver(seat, ticket, news);
-        self.changed.notify_all();
+        match &taken {
+            Taken::Kept => {}
+            Taken::Late(_ticket, _serial) => self.changed.notify_all(),
+            Taken::Memory(_ticket, _news) => self.changed.notify_all(),
+        }
         taken
     }
 
@@ -118,6 +144,7 @@ fn lock_up<W: World, Q: Rooted, N: Counted>(
         alloc,
         table,
         books,
+        waiting: 0,
         of: PhantomData,
     }
 }
@@ -131,6 +158,7 @@ fn audited<W: World, Q: Rooted, N: Counted>(locked: Locked<W, Q, N>, all: Shares
         alloc: _,
         table,
         mut books,
+        waiting: _,
         of: _,
     } = locked;
     let mut all = all;

@@ -102,7 +102,7 @@ fn compared(alloc: Global, key: &Key, value: &Expr, origin: &Origin) -> Result<O
     }
 }
 
-/// The same where the key has this digest.
+/// The value of the key without digest, where it has the digest that the key wants; else the fault that tells both digests.
 fn checked(
     alloc: Global,
     key: &Key,

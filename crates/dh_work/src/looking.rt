@@ -25,7 +25,7 @@ use dh_syntax::{Bytes, DecodeFault, Digest, Expr, copy};
 use sha2::Sha256;
 use std::alloc::{AllocError, Global};
 
-/// So many bytes are not decoded: the answer to them is that memory is wanting. No look finds as many.
+/// As many bytes or more are not decoded: the answer to them is that memory is wanting. No look finds as many.
 const TOO_LONG: usize = 1 << 32;
 
 /// The good entry that bytes are under a digest: they have that digest, and are the binary form of an expression without imports and
