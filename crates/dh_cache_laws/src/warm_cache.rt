@@ -10,7 +10,7 @@ pub fn warm_roots()
     ensures end { WarmEnd }
 {}
 
-/// The same digests are written behind the imports of the root.
+/// Where the root is ready with a cache that was honestly written and without one, the same digests are written behind its imports.
 pub fn warm_digests()
     ensures { WarmDigests }
 {}

@@ -1,8 +1,9 @@
 //! Whole runs of the program, over desks and streams of its own.
 
 use dh_ports::{DeskFails, Feed, MemDesk, MemFeed, MemSink, OpenGate, Silent, Sink, are_short};
-use dh_program::{Source, Target, run_program};
+use dh_streams::{Source, Target};
 use dh_syntax::{Bytes, Many};
+use dh_top::run_program;
 use std::alloc::{AllocError, Global};
 use std::env::Args;
 use std::io;

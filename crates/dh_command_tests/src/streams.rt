@@ -1,7 +1,7 @@
 //! The streams of the program: interruptions, ends and failures.
 
 use dh_ports::{Feed, ReadError, Sink, WriteError};
-use dh_program::{Source, Target};
+use dh_streams::{Source, Target};
 use std::io;
 use std::io::{ErrorKind, Read, Write};
 use std::test::Fail;

@@ -121,7 +121,7 @@ fn texts_of_a_server_are_chained_and_held_to_their_origins(rt: HostRuntime) -> R
     Ok(())
 }
 
-/// So many times: answers one request on each of eight connections with the text `3`, and none before all eight are asked.
+/// Answers one request on each of eight connections with the text `3`, and none before all eight are asked, as often as `times` says.
 fn serve_eight_at_once(listener: &TcpListener, alloc: Global, times: usize) -> io::Result<()> {
     for _ in 0..times {
         let mut streams = Vec::new(alloc);

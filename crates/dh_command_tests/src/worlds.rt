@@ -2,7 +2,7 @@
 
 ghost use Rattle.std.specs.Prelude.{◌≡◌, Some, All, IfOk, map, string_bytes};
 ghost use Rattle.dh_ports.specs.Desks.{IsShort};
-ghost use Rattle.dh_top.specs.Runs.{reading, output};
+ghost use Rattle.dh_streams.specs.Streams.{reading, output};
 ghost use Rattle.dh_command_tests.specs.Worlds.{RunsOver};
 
 use dh_command::Status;

@@ -13,7 +13,7 @@ pub struct Held {
     ghost few: { nests ≤ 501 },
 }
 
-/// The same in a box of its own, so that the places that hold it are moved at little cost.
+/// An expression and how deep it nests, in a box of their own, so that the places that hold them are moved at little cost.
 #[derive(Drop)]
 pub struct Part {
     pub held: Box<Held>,

@@ -71,7 +71,7 @@ impl<'a, R> SystemDesk<'a, R> {
     }
 }
 
-/// So many desks over one system.
+/// As many desks over one system as `n` says.
 pub(crate) fn some_desks<'a, R: Copy>(
     rt: R,
     alloc: Global,

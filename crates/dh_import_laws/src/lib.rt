@@ -2,9 +2,11 @@
 //! history gives what that resolver gives.
 //!
 //! Each law is the contract of a public function with an empty body. A crate that rests on one calls nothing: it cites the
-//! lemma behind it, or the function where a clause has to speak of it, as
+//! lemma behind it, or the function where a clause has to speak of it:
 //!
-//!     dh_import_laws::outcomes_are_resolved();
+//! ```text
+//! dh_import_laws::outcomes_are_resolved();    // from here on the facts of its contract are known
+//! ```
 #![tactic(auto)]
 
 mod resolver;

@@ -31,6 +31,7 @@ pub struct HoldGate {
 }
 
 impl HoldGate {
+    /// A gate that holds the fetch of `held` until that of `other` was reached, but not forever.
     pub fn new(held: Loc, other: Loc) -> HoldGate {
         HoldGate {
             held,

@@ -1,13 +1,19 @@
-//! The streams that the command reads from and writes to: the traits that devices meet, and both in memory; and what is found
-//! outside, with what contracts may know of it.
+//! What a run sees of the outside, as traits: a [`Feed`] gives bytes, a [`Sink`] takes them, a [`Desk`] has imported texts and entries of
+//! the cache, and a [`Gate`] is passed before each fetch. A [`World`] is what contracts may know of what a desk finds.
 //!
-//! A [`Feed`] gives bytes and a [`Sink`] takes them. Each may tell what it has left or has taken, so that contracts can speak
-//! of it, and counts its failed calls: a call that fails changes nothing else. [`MemFeed`] and [`MemSink`] fail exactly at the
-//! calls that they are told to, for tests of what a run does when a device fails. A narrow one moves one byte a call.
+//! A feed and a sink may tell what they have left or have taken, so that contracts can speak of it. They count their failed calls: a call
+//! that fails changes nothing else. [`MemFeed`], [`MemSink`] and [`MemDesk`] are in memory and fail at the calls that they are told to,
+//! for tests of what a run does when a device fails. A narrow feed or sink moves one byte a call.
 //!
 //! ```text
 //! let mut feed = MemFeed::new(alloc, bytes, failing_calls);
-//! let count = feed.read(&mut buffer)?;    // 0 at the end alone
+//! let count = feed.read(&mut buffer)?;            // 0 at the end alone, where the buffer has room
+//! match desk.fetch(alloc, &loc) {
+//!     Ok(Got::Found(found)) => ..,                // found.bytes, at most 1,048,577 of them
+//!     Ok(Got::Absent | Got::Broken(_)) => ..,     // nothing is there; an HTTP status that is no answer
+//!     Err(DeskError::Failed) => ..,               // the device failed
+//!     Err(DeskError::Memory) => ..,
+//! }
 //! ```
 #![tactic(auto)]
 

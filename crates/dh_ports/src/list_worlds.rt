@@ -105,7 +105,7 @@ mod tests {
         fetch::<ListWorld<L>, MemDesk<ListWorld<L>>>(&mut desk, alloc, loc)
     }
 
-    /// The same of lists that only a run makes: that a desk answers what its world tells gives what is listed.
+    /// What a desk finds over lists that only a run makes: that it answers what its world tells gives what is listed.
     fn found_in(
         alloc: Global,
         contents: Contents,

@@ -197,7 +197,8 @@ impl MemDesk<Silent> {
 impl<W: World> MemDesk<W> {
     ghost use Rattle.dh_ports.specs.MemDeskViews.{contents_of, cache_of, kept_of};
 
-    /// The same in a world that tells, where it tells, what the lists have.
+    /// A desk over these lists, whose calls fail that `fails` lists, in a world that tells, where it tells, what the lists have. It takes
+    /// no memory.
     pub fn over(alloc: Global, contents: Contents, cache: Cache, fails: DeskFails) -> MemDesk<W>
         requires short { All (λ c. IsShort c.got) contents }
         requires told { AreTold W.told contents }

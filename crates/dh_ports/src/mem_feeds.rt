@@ -67,7 +67,7 @@ impl MemFeed {
         }
     }
 
-    /// The same, but a call gives at most one byte.
+    /// A feed of these bytes of which a call gives at most one byte, and those fail that `fails` lists. It takes no memory.
     pub fn narrow(_alloc: Global, bytes: Bytes, fails: CallList) -> MemFeed
         ensures left { result.left ≡ bytes }
         ensures narrow { result.narrow ≡ true }

@@ -60,7 +60,7 @@ impl MemSink {
         }
     }
 
-    /// The same, but a call takes at most one byte.
+    /// An empty sink of which a call takes at most one byte, and those fail that `fails` lists. It takes no memory.
     pub fn narrow(alloc: Global, fails: CallList) -> MemSink
         ensures written { result.written ≡ [] }
         ensures narrow { result.narrow ≡ true }

@@ -85,6 +85,7 @@ pub fn write_variable(text: &mut String, name: &Label, index: u32) -> Result<(),
     Ok(())
 }
 
+/// A label, between backticks where it would not be read as one without them.
 pub fn write_label(text: &mut String, name: &Label) -> Result<(), AllocError>
     ensures { OnOk result (string_bytes text.new ≡ string_bytes text.old ++ label name.now) }
 {

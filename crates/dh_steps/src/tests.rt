@@ -332,7 +332,7 @@ fn words_are_places_or_not(rt: HostRuntime) -> Result<(), Fail> {
     Ok(())
 }
 
-/// So many times `root`, but for a word of this number, from 0, that is no place.
+/// As many words `root` as `count` says, but for the word of the number `wrong`, from 0, which is no place.
 fn roots(alloc: Global, count: usize, wrong: usize) -> Result<Vec<String>, AllocError> {
     let mut words = Vec::new(alloc);
     for i in 0..count {

@@ -48,6 +48,7 @@ pub struct Source<R> {
 }
 
 impl<R> Source<R> {
+    /// A feed over this reader, of which no read has failed.
     pub fn new(reader: R) -> Source<R>
         ensures { result ≡ record { reader = reader; failed = 0 } }
     {
@@ -79,6 +80,7 @@ pub struct Target<W> {
 }
 
 impl<W> Target<W> {
+    /// A sink over this writer, of which no write has failed.
     pub fn new(writer: W) -> Target<W>
         ensures { result ≡ record { writer = writer; failed = 0 } }
     {

@@ -25,7 +25,9 @@ use Rattle.dh_steps.specs.StepsAnswer.{StepsReply}
 use Rattle.dh_syntax.specs.Expressions.Tree.{Term}
 use Rattle.dh_top.specs.Outside.{Outside}
 use Rattle.dh_top.specs.Replies.{IsMade}
-use Rattle.dh_top.specs.Runs.{Input, Output, AreMisused, Gains, Makes, answers, generates, cannot_read, lacks_memory, Delivers, whole, out_failed, err_failed, ReadFailed}
+use Rattle.dh_streams.specs.Deliveries.{Delivers, whole, out_failed, err_failed}
+use Rattle.dh_streams.specs.Streams.{Input, Output, Gains}
+use Rattle.dh_top.specs.Runs.{AreMisused, Makes, answers, generates, cannot_read, lacks_memory, ReadFailed}
 use Rattle.dh_top.proofs.Devices.{other_status}
 use Rattle.dh_top.proofs.Gathering.{fault_is}
 

@@ -43,7 +43,9 @@ use Rattle.dh_top.specs.Causes as causes
 use Rattle.dh_top.specs.Causes.{Cause, RunCause, Decides, FileCause, IsValued, IsCaused, TellsOneLine, TellsRefusal, has_cause, is_refusal}
 use Rattle.dh_top.specs.Generating.{GenSession, no_list, on_list}
 use Rattle.dh_top.specs.Outside.{Outside, IsFound, Shelving, Telling}
-use Rattle.dh_top.specs.Runs.{Input, Output, Gains, Makes, answers, generates, cannot_read, lacks_memory, Delivers, whole, out_failed, err_failed, Runs, IsRead, FindsFor}
+use Rattle.dh_streams.specs.Deliveries.{Delivers, whole, out_failed, err_failed}
+use Rattle.dh_streams.specs.Streams.{Input, Output, Gains}
+use Rattle.dh_top.specs.Runs.{Makes, answers, generates, cannot_read, lacks_memory, Runs, IsRead, FindsFor}
 
 abbrev is_memory : Status → Bool
 is_memory status.Memory = true

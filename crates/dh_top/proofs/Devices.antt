@@ -33,7 +33,9 @@ use Rattle.dh_laws.proofs.KeyOrder.{none-some, some-equal}
 use Rattle.dh_session.specs.Works.{AtLast}
 use Rattle.dh_record.specs.Brought.{has_failed, is_failed}
 use Rattle.dh_top.specs.Outside.{Outside, Finds, finds, finds_each, leaves, all_failures, failures, total}
-use Rattle.dh_top.specs.Runs.{DeskFailed, Output, Delivers, whole, out_failed, err_failed}
+use Rattle.dh_streams.specs.Deliveries.{Delivers, whole, out_failed, err_failed}
+use Rattle.dh_streams.specs.Streams.{Output}
+use Rattle.dh_top.specs.Runs.{DeskFailed}
 
 -- ---- statuses by their numbers
 

@@ -27,7 +27,8 @@ use Rattle.dh_top.proofs.Devices.{alone_status, desk_failed, other_statuses}
 use Rattle.dh_top.specs.declared.replies.Reply.{Reply}
 use Rattle.dh_top.specs.Outside.{Outside, Finds, finds, finds_each, leaves, FilesPart, files_none, files_some, files_of_each, IsLeftAlone}
 use Rattle.dh_top.specs.Replies.{IsExplained, written, Answers, IsMade, Performs, Lacks}
-use Rattle.dh_top.specs.Runs.{Input, Makes, answers, cannot_read, FindsFor, LacksMemory, lacks_early, lacks_late, IsRead, IsTaken, IsLeft, IsQuiet, reading}
+use Rattle.dh_streams.specs.Streams.{Input, IsTaken, IsLeft, IsQuiet, reading}
+use Rattle.dh_top.specs.Runs.{Makes, answers, cannot_read, FindsFor, LacksMemory, lacks_early, lacks_late, IsRead}
 
 -- ---- the reply to what a text is parsed to, and to what bytes are decoded to
 

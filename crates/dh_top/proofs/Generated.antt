@@ -52,7 +52,8 @@ use Rattle.dh_table.specs.States.{IsReplayed, record_of, state_of}
 use Rattle.dh_top.specs.Generating.{GenSession, GeneratedDigests, IsCounted, IsGenerated, no_list, on_list, with_digest, with_fault}
 use Rattle.dh_top.specs.Outside.{IsFound, IsLeftAlone, IsTextTold, Outside, Pair, Session, failures, got_of, is_fetch_claim}
 use Rattle.dh_top.specs.Replies.{Performs, written}
-use Rattle.dh_top.specs.Runs.{generates, reading}
+use Rattle.dh_streams.specs.Streams.{reading}
+use Rattle.dh_top.specs.Runs.{generates}
 use Rattle.dh_top.specs.declared.replies.Reply.{Reply}
 use Rattle.dh_top.proofs.Devices.{failed_found, other_status, resolved_device}
 use Rattle.dh_top.proofs.Encodings.{keeps_itself}

@@ -6,6 +6,7 @@ pub mod Commands
 pub mod Devices
 pub mod EachFound
 pub mod Encodings
+pub mod Endings
 pub mod Filing
 pub mod Finding
 pub mod Forms
@@ -15,7 +16,6 @@ pub mod KeptFiles
 pub mod Normals
 pub mod Operands
 pub mod PlacedReplies
-pub mod Reading
 pub mod Resolutions
 pub mod Rounds
 pub mod RunLaws
@@ -26,4 +26,3 @@ pub mod TypedReplies
 pub mod Using
 pub mod WarmBatches
 pub mod WarmRuns
-pub mod Writing

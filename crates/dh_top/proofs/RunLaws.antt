@@ -40,7 +40,9 @@ use Rattle.dh_top.proofs.StepReplies.{steps_end_ok}
 use Rattle.dh_top.specs.declared.replies.Reply.{Reply}
 use Rattle.dh_top.specs.Outside.{Outside}
 use Rattle.dh_top.specs.Replies.{written, IsMade}
-use Rattle.dh_top.specs.Runs.{Input, Output, Makes, DeskFailed, answers, generates, cannot_read, lacks_memory, LacksMemory, Delivers, whole, out_failed, err_failed, Runs, Works, IsRead, IsTaken, IsLeft, reading}
+use Rattle.dh_streams.specs.Deliveries.{Delivers, whole, out_failed, err_failed}
+use Rattle.dh_streams.specs.Streams.{Input, Output, IsTaken, IsLeft, reading}
+use Rattle.dh_top.specs.Runs.{Makes, DeskFailed, answers, generates, cannot_read, lacks_memory, LacksMemory, Runs, Works, IsRead}
 
 -- a command line is no misuse, and asks for one command
 abbrev is_ok : Result Command ℕ → Bool

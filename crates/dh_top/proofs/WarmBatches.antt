@@ -18,7 +18,9 @@ use Rattle.dh_top.proofs.EachFound.{EachRecord, each_found}
 use Rattle.dh_top.proofs.RunLaws.{apart, files_only}
 use Rattle.dh_top.proofs.WarmRuns.{HasLimits, ends-as, found-limits, nothing-limits, warm-of, memory-ok, read-ok, write-ok, command_in, IsCommand}
 use Rattle.dh_top.specs.Outside.{Outside}
-use Rattle.dh_top.specs.Runs.{Input, Output, Gains, FindsFor, Makes, answers, generates, cannot_read, lacks_memory, Delivers, whole, out_failed, err_failed}
+use Rattle.dh_streams.specs.Deliveries.{Delivers, whole, out_failed, err_failed}
+use Rattle.dh_streams.specs.Streams.{Input, Output, Gains}
+use Rattle.dh_top.specs.Runs.{FindsFor, Makes, answers, generates, cannot_read, lacks_memory}
 use Rattle.dh_top.specs.WarmBatches as plain
 use Rattle.dh_top.specs.WarmBatches.{HavePlainRuns, WarmBatches, digest_lines}
 use Rattle.dh_top.specs.WarmRuns as warm

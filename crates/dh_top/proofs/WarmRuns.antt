@@ -19,7 +19,9 @@ use Rattle.dh_syntax.specs.Expressions.Tree.{Term}
 use Rattle.dh_imports.specs.Records.{Record, limit_at, IsLimitOf}
 use Rattle.dh_laws.proofs.KeyOrder.{none-some}
 use Rattle.dh_top.specs.Outside.{Outside, IsFound, Shelving, Telling}
-use Rattle.dh_top.specs.Runs.{Input, Output, Gains, IsTaken, IsLeft, IsRead, FindsFor, Makes, answers, generates, cannot_read, lacks_memory, Delivers, whole, out_failed, err_failed}
+use Rattle.dh_streams.specs.Deliveries.{Delivers, whole, out_failed, err_failed}
+use Rattle.dh_streams.specs.Streams.{Input, Output, Gains, IsTaken, IsLeft}
+use Rattle.dh_top.specs.Runs.{IsRead, FindsFor, Makes, answers, generates, cannot_read, lacks_memory}
 use Rattle.dh_cache_laws.specs.WarmAnswers.{AreSameLines}
 use Rattle.dh_top.specs.WarmRuns as warm
 use Rattle.dh_cache_laws.specs.WarmCache.{IsWarm}

@@ -39,7 +39,8 @@ use Rattle.dh_syntax.specs.Text.Spelling.{ParsesTo}
 use Rattle.dh_syntax.specs.Typing.NamedTyping.{IsIll}
 use Rattle.dh_top.specs.Generating.{GenSession}
 use Rattle.dh_top.specs.Outside.{Outside, Finds}
-use Rattle.dh_top.specs.Runs.{Input, Output, Gains, IsRead}
+use Rattle.dh_streams.specs.Streams.{Input, Output, Gains}
+use Rattle.dh_top.specs.Runs.{IsRead}
 
 -- the command reads the text of an expression
 abbrev pub Parses : Verb → Type 0

@@ -1,7 +1,7 @@
 pub mod Causes
+pub mod Ends
 pub mod FileReplies
 pub mod Generating
-pub mod Inputs
 pub mod Outside
 pub mod Replies
 pub mod Runs

@@ -29,7 +29,8 @@ use Rattle.dh_table.specs.Roots.{IsEnd, IsFitEnd}
 use Rattle.dh_table.specs.Shown.{Shown}
 use Rattle.dh_table.specs.States.{record_of, state_of}
 use Rattle.dh_top.specs.Outside.{Outside, Finds, all_failures}
-use Rattle.dh_top.specs.Runs.{Input, DeskFailed, LacksMemory, Makes}
+use Rattle.dh_streams.specs.Streams.{Input}
+use Rattle.dh_top.specs.Runs.{DeskFailed, LacksMemory, Makes}
 use Rattle.dh_top.specs.declared.replies.Reply.{Reply}
 
 abbrev pub written : Reply → Response

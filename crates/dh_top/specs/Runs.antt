@@ -1,7 +1,5 @@
 -- What one run of the command does to its input and to its two outputs.
-use Rattle.std.specs.Prelude.{◌≡◌, ℕ, suc, ◌<◌, ◌⊎◌, List, [], ◌∷◌, length, take, Any, Option, Some, IfSome, MatchBool, Result, Ok, Err, IsErr}
-use Rattle.std.specs.Io.{StartsWith}
-use Rattle.std.specs.Io.KnownBytes.{Appends, Consumes, Keeps}
+use Rattle.std.specs.Prelude.{◌≡◌, ℕ, ◌<◌, ◌⊎◌, List, [], ◌∷◌, Any, Some, MatchBool, Result, Ok, Err, IsErr}
 use Rattle.dh_ports.specs.Counts.{Rose}
 use Rattle.dh_command.specs.declared.commands.Command.{Command}
 use Rattle.dh_command.specs.declared.statuses.Status.{Status}
@@ -9,52 +7,16 @@ use Rattle.dh_command.specs.declared.statuses.Status.TheVariants as status
 use Rattle.dh_command.specs.Answer.{CommandAnswer, Succeeds, nothing_found}
 use Rattle.dh_command.specs.Generating.{GenAnswer}
 use Rattle.dh_command.specs.Responses.{Response, line, unread, without_memory}
-use Rattle.dh_command.specs.Lines.{read_line, write_line}
+use Rattle.dh_command.specs.Lines.{read_line}
 use Rattle.dh_imports.specs.Records.{Record}
-use Rattle.dh_syntax.specs.Limits.{most_bytes}
 use Rattle.dh_command.specs.Words.{Word, reads, command_of, operand_words}
 use Rattle.dh_command.specs.declared.verbs.Verb.TheVariants as verb
 use Rattle.dh_gen.specs.NumberWords.{operand_number}
 use Rattle.dh_session.specs.Works.{AtLast}
+use Rattle.dh_streams.specs.Deliveries.{Delivers}
+use Rattle.dh_streams.specs.Streams.{Gains, Input, IsLeft, IsTaken, Output}
 use Rattle.dh_top.specs.Generating.{GenSession}
 use Rattle.dh_top.specs.Outside.{Outside, Finds, FilesPart, IsLeftAlone, total}
-
--- the input before and after a run: what is left, where that is known, and how many reads have failed
-pub record Input : Type 0 where
-  pub before : Option (List ℕ)
-  pub after : Option (List ℕ)
-  pub faults_before : ℕ
-  pub faults_after : ℕ
-
--- an output before and after a run: what was written, where that is known, and how many writes have failed
-pub record Output : Type 0 where
-  pub before : Option (List ℕ)
-  pub after : Option (List ℕ)
-  pub faults_before : ℕ
-  pub faults_after : ℕ
-
-abbrev pub output : Option (List ℕ) → Option (List ℕ) → ℕ → ℕ → Output
-output before after faults_before faults_after = record { before = before; after = after; faults_before = faults_before; faults_after = faults_after }
-
-abbrev pub reading : Option (List ℕ) → Option (List ℕ) → ℕ → ℕ → Input
-reading before after faults_before faults_after = record { before = before; after = after; faults_before = faults_before; faults_after = faults_after }
-
--- at most so many bytes are read, one more than a text may have
-abbrev pub most_read : ℕ
-most_read = suc most_bytes
-
--- no read of the input failed and was counted
-abbrev pub IsQuiet : Input → Type 0
-IsQuiet input = input.faults_after ≡ input.faults_before
-
--- The input is what was left; it is read to its end or up to the most that is read, and no read fails.
-abbrev pub IsTaken : List ℕ → Input → Type 0
-IsTaken text input =
-    IfSome input.before (λ left. text ≡ left) × Consumes input.before input.after (take most_read text) × IsQuiet input
-
--- The input is left alone.
-abbrev pub IsLeft : Input → Type 0
-IsLeft input = Keeps input.before input.after × IsQuiet input
 
 -- A command that reads takes its input. Another one, and words that are no command line, leave it alone.
 abbrev pub IsRead : Result Command ℕ → List ℕ → Input → Type 0
@@ -81,30 +43,6 @@ pub data Makes (words : List Word) (input : Input) (o : Outside) (rs : List Reco
       → IsLeft input → IsLeftAlone o → GenSession n r asked → GenAnswer n r asked w → Makes words input o rs w
   cannot_read : (c : Command) → command_of words ≡ Ok c → Rose input.faults_before input.faults_after → IsLeftAlone o → w ≡ unread → Makes words input o rs w
   lacks_memory : LacksMemory words input o → w ≡ without_memory → Makes words input o rs w
-
--- an output grew by just these bytes, and no write to it failed
-pub record Gains (o : Output) (bytes : List ℕ) : Type 0 where
-  pub grown : Appends o.before o.after bytes
-  pub quiet : o.faults_after ≡ o.faults_before
-
--- an output grew by some first part of these bytes, and then a write to it failed
-pub record Stops (o : Output) (bytes : List ℕ) : Type 0 where
-  pub part : List ℕ
-  pub begins : StartsWith bytes part
-  pub short : length part < length bytes
-  pub gains : Appends o.before o.after part
-  pub failed : Rose o.faults_before o.faults_after
-
--- these bytes were written until a write failed, if one did
-abbrev pub Tries : Output → List ℕ → Type 0
-Tries o bytes = Gains o bytes ⊎ Stops o bytes
-
--- How it is written: whole, with its status; or a write to standard output failed, and the line `write failed` was
--- tried on standard error; or a write to standard error failed.
-pub data Delivers (w : Response) (out err : Output) (s : Status) : Type 0 where
-  whole : Gains out w.out → Gains err w.err → s ≡ w.status → Delivers w out err s
-  out_failed : Stops out w.out → Tries err (line write_line) → s ≡ status.Write → Delivers w out err s
-  err_failed : Gains out w.out → Stops err w.err → s ≡ status.Write → Delivers w out err s
 
 -- no read and no write failed
 pub record Works (input : Input) (out err : Output) : Type 0 where

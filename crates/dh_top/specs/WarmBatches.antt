@@ -8,7 +8,8 @@ use Rattle.dh_command.specs.Words.{Word, command_of, operand_words}
 use Rattle.dh_files.specs.FileWords.{file_text}
 use Rattle.dh_imports.specs.Records.{Record}
 use Rattle.dh_top.specs.Outside.{Outside}
-use Rattle.dh_top.specs.Runs.{Input, Output, Runs, Gains}
+use Rattle.dh_streams.specs.Streams.{Input, Output, Gains}
+use Rattle.dh_top.specs.Runs.{Runs}
 use Rattle.dh_top.specs.WarmRuns.{HasPlainRun, EndsWarmly}
 
 -- Without a cache each of these files has a digest, as these bytes say, over a record by which the cache of the run was honestly written.

@@ -17,7 +17,8 @@ use Rattle.dh_imports.specs.Resolver.{resolve}
 use Rattle.dh_imports.specs.Walk.{walk}
 use Rattle.dh_syntax.specs.Text.Spelling.{ParsesTo}
 use Rattle.dh_top.specs.Outside.{Outside}
-use Rattle.dh_top.specs.Runs.{Input, Output, Runs, Makes, answers, generates, cannot_read, lacks_memory, Gains}
+use Rattle.dh_streams.specs.Streams.{Input, Output, Gains}
+use Rattle.dh_top.specs.Runs.{Runs, Makes, answers, generates, cannot_read, lacks_memory}
 use Rattle.dh_cache_laws.specs.WarmAnswers.{AreSameLines}
 use Rattle.dh_imports.specs.HonestCache.{AreHonest}
 use Rattle.dh_import_laws.specs.ImportLaws.{IsDecided}

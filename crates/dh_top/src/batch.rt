@@ -90,7 +90,7 @@ fn keep_files<W: World, D: Desk<W>>(desk: &mut D, replies: &[FileReply]) -> Resu
     Ok(())
 }
 
-/// The same at the first desk.
+/// Keeps the entries of all files at the first desk, in the order of the files, until memory is wanting.
 fn keep_files_at_first<W: World, D: Desk<W>>(
     desks: &mut [D],
     replies: &[FileReply],

@@ -33,7 +33,7 @@ use std::alloc::{AllocError, Global};
 use std::sync::Wait;
 use std::thread::Threads;
 
-/// So many desks in the world of the generated texts.
+/// As many desks in the world of the generated texts as `count` says.
 fn desks_made(alloc: Global, count: u32) -> Result<Vec<GenDesk>, AllocError>
     ensures { IfOk result (λ desks. vec_len desks ≡ count) }
 {

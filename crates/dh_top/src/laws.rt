@@ -12,7 +12,8 @@ pub fn warm_runs()
     ensures told { WarmRuns }
 {}
 
-/// The same of `batch`: where each file would have a digest without the cache, a run that ends well writes these digests.
+/// Where the cache was honestly written and each file would have a digest without it, a run of `batch` ends well unless a device fails,
+/// memory is out or it names a limit; and then it writes these digests.
 pub fn warm_batches()
     ensures { WarmBatches }
 {}

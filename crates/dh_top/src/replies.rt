@@ -5,19 +5,20 @@ ghost use Rattle.dh_command.specs.Responses.{misused, unread, answer as answer_o
 ghost use Rattle.dh_command.specs.Words.{AreFit, command_of, takes_number};
 ghost use Rattle.dh_top.specs.Outside.{outside, desks_for, desks_of, FilesPart, UsesFirst};
 ghost use Rattle.dh_top.specs.Replies.{written, Answers, IsMade, Lacks, Performs};
-ghost use Rattle.dh_top.specs.Runs.{LacksMemory, reading};
+ghost use Rattle.dh_streams.specs.Streams.{reading};
+ghost use Rattle.dh_top.specs.Runs.{LacksMemory};
 
 use crate::batch::batching;
 use crate::decoding::decoding;
 use crate::encoding::encoding;
 use crate::generating::generating;
-use crate::inputs::{InputFault, read_input};
 use crate::resolving::resolving;
 use crate::steps::stepping;
 use crate::telling::{explain, help, version};
 use crate::words::{operands_of, read_words};
 use dh_command::{Command, Status, Verb};
 use dh_ports::{Desk, Feed, Gate, World};
+use dh_streams::{InputFault, read_input};
 use dh_syntax::ParseFault;
 use std::alloc::{AllocError, Global};
 use std::sync::Wait;

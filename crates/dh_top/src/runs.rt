@@ -5,12 +5,13 @@ ghost use Rattle.dh_ports.specs.Counts.{Rose};
 ghost use Rattle.dh_command.specs.Words.{command_of};
 ghost use Rattle.dh_top.specs.Causes.{IsCaused, TellsRefusal, has_cause, is_refusal};
 ghost use Rattle.dh_top.specs.Outside.{outside, desks_for, UsesFirst};
-ghost use Rattle.dh_top.specs.Runs.{Runs, AreMisused, DeskFailed, ReadFailed, reading, output};
+ghost use Rattle.dh_streams.specs.Streams.{reading, output};
+ghost use Rattle.dh_top.specs.Runs.{Runs, AreMisused, DeskFailed, ReadFailed};
 
-use crate::delivery::deliver;
 use crate::replies::reply_to;
 use dh_command::Status;
 use dh_ports::{Desk, Feed, Gate, Sink, World};
+use dh_streams::deliver;
 use std::alloc::Global;
 use std::sync::Wait;
 use std::thread::Threads;

@@ -7,7 +7,7 @@ pub fn swept_holds()
     ensures { SweptHolds }
 {}
 
-/// It is the same where the later outcomes still stand while the earlier ones are looked at.
+/// A sweep leaves the same outcomes where the later ones still stand while the earlier ones are looked at.
 pub fn swept_in_place()
     ensures { SweptInPlace }
 {}
@@ -22,7 +22,7 @@ pub fn edits_agree()
     ensures { EditsAgree }
 {}
 
-/// So it is where one sweep is made for many edits.
+/// After many edits, with one sweep for all of them, what is left agrees with the contents as they then are.
 pub fn edits_agree_later()
     ensures edits { EditsAgreeLater }
     ensures swept { AgreesLaterThenSwept }

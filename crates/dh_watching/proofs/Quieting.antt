@@ -13,8 +13,10 @@ use Rattle.dh_streams.specs.Streams.{Gains, Input, IsTaken, Output}
 use Rattle.dh_watch_laws.specs.ScriptLines.{IsScript, Order}
 use Rattle.dh_watching.specs.QuietRuns as quiet
 use Rattle.dh_watching.specs.QuietRuns.{AreQuiet, QuietRuns, Writes}
+use Rattle.dh_streams.specs.Deliveries as deliveries
 use Rattle.dh_watching.specs.Runs as runs
-use Rattle.dh_watching.specs.Runs.{Delivers, Ends, EndsWith, Refuses, RoseBy, Runs, failures, fault_status}
+use Rattle.dh_streams.specs.Deliveries.{Delivers}
+use Rattle.dh_watching.specs.Runs.{Ends, EndsWith, Refuses, RoseBy, Runs, failures, fault_status}
 use Rattle.dh_watching.specs.Steps.{State}
 
 -- asks none of which was refused since a device failed
@@ -42,9 +44,9 @@ Answer input out err s = (s ≡ status.Memory) ⊎ ((text : List ℕ) × IsTaken
 module _ (input : Input) (a b : State) (out err : Output) (s : Status) (told : a.told ≡ Some []) (kept : a.kept ≡ []) (q : AreQuiet input a b out err) where
   -- what was delivered was written whole
   delivered : {P : Type 0} (w : Response) → Delivers w out err s → (Gains out w.out → Gains err w.err → s ≡ w.status → P) → P
-  delivered w (runs.whole g h e) next = next g h e
-  delivered w (runs.out_failed g h e) next = absurd (q.writes g.failed)
-  delivered w (runs.err_failed g h e) next = absurd (q.tells h.failed)
+  delivered w (deliveries.whole g h e) next = next g h e
+  delivered w (deliveries.out_failed g h e) next = absurd (q.writes g.failed)
+  delivered w (deliveries.err_failed g h e) next = absurd (q.tells h.failed)
 
   of_fault : (text : List ℕ) (f : ScriptFault) (w : Response) → IsTaken text input → IsRefused text f → w ≡ fault (fault_line f) (fault_status f) → Delivers w out err s → Answer input out err s
   of_fault text f w taken refused is d =
@@ -64,7 +66,7 @@ module _ (input : Input) (a b : State) (out err : Output) (s : Status) (told : a
   of_ends : (text : List ℕ) (orders : List Order) → IsTaken text input → IsScript text orders → Ends orders a b out err s → Answer input out err s
   of_ends text orders taken script (runs.through out_told d g h) =
       inr (text, taken, quiet.orders orders out_told d.refused script (d.tried told kept) (none_failed d.refused (no_rise (failures d.refused) a.faults b.faults q.files q.counts d.counted)) g h)
-  of_ends text orders taken script (runs.refused before after o c out_told t f cut edit d kind le rose g ends) =
+  of_ends text orders taken script (runs.refused before after o c out_told t f cut edit d kind same le rose g ends) =
       inl (of_end f (λ p. no_rose (failures d.refused) a.faults b.faults c.faults q.files q.counts d.counted le (rose p)) kind (refusal_text f) ends)
   of_ends text orders taken script (runs.cut before after out_told t cut d stops tries e) = absurd (q.writes stops.failed)
 

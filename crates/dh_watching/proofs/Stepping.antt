@@ -1,5 +1,5 @@
 -- Orders that are followed one after the other.
-use Rattle.std.proofs.Common.{◌≡◌, ◌∙◌, ℕ, ◌+◌, ◌<◌, ◌≤◌, List, [], ◌∷◌, ◌++◌, codes, Option, Some, None, Result, Ok, Err, length, take, drop, get_or, sym, ap, subst, append_assoc, append-nil, arith}
+use Rattle.std.proofs.Common.{◌≡◌, ◌∙◌, ℕ, ◌+◌, ◌<◌, ◌≤◌, List, [], ◌∷◌, ◌++◌, codes, Option, Some, None, Result, Ok, Err, length, take, drop, get_or, refl, sym, ap, subst, append_assoc, append-nil, arith}
 use Rattle.std.proofs.lemmas.List.{drop_more, map-append, take-append-drop, take_all, take_more}
 use Rattle.dh_command.specs.declared.statuses.Status.{Status}
 use Rattle.dh_command.specs.declared.statuses.Status.TheVariants as status
@@ -22,7 +22,7 @@ use Rattle.dh_watching.specs.declared.watches.WatchFault.{WatchFault}
 use Rattle.dh_watching.specs.declared.watches.WatchFault.TheVariants as faults
 use Rattle.dh_watching.specs.Inside.Gone.{AfterChange, AfterOrder, HasGone, HasHalted, HasStopped, IsCutOff, IsFollowed, IsGoneTo, IsRefusedChange, edit_of}
 use Rattle.dh_watching.specs.Steps as steps
-use Rattle.dh_watching.specs.Steps.{Follows, IsAnswer, IsChange, IsEdit, IsRefusal, State, goes_on, refusal_of, stays}
+use Rattle.dh_watching.specs.Steps.{AsksOneMore, Follows, IsAnswer, IsChange, IsEdit, IsRefusal, State, goes_on, refusal_of, stays}
 
 -- before the first order
 pub nothing_gone : (a : State) (w : Option (List ℕ)) (f : ℕ) → HasGone a a [] (output w w f f) status.Ok
@@ -97,13 +97,22 @@ orders_all os i e = ap (λ n. orders_of (take n os)) (sym e) ∙ ap orders_of (t
 
 -- ---- one order
 
-pub is_edit : (l : Loc) (bytes : Option (List ℕ)) → IsEdit (edit_of l bytes)
+-- nothing was asked for, and nothing is new
+pub none_new : (kept : List Loc) (asked : ℕ) → AsksOneMore kept kept asked asked
+none_new kept asked = record { locs = []; once = tt; fresh = λ l m. absurd m; kept = λ l m. absurd m; most = omega arith }
+
+is_edit : (l : Loc) (bytes : Option (List ℕ)) → IsEdit (edit_of l bytes)
 is_edit l (Some bytes) = tt
 is_edit l None = tt
 
-pub changed : (a b : State) (l : Loc) (bytes : Option (List ℕ)) → IsChange a.told a.kept l bytes b.told b.kept → a.faults ≤ b.faults → Follows a b (edit_of l bytes) [] status.Ok []
-changed a b l (Some bytes) ch le = steps.sets l bytes ch le
-changed a b l None ch le = steps.drops l ch le
+pub changed : (a b : State) (l : Loc) (bytes : Option (List ℕ)) → IsChange a.told a.kept l bytes b.told b.kept → b.asked ≡ a.asked → a.faults ≤ b.faults
+    → Follows a b (edit_of l bytes) [] status.Ok []
+changed a b l (Some bytes) ch none le = steps.sets l bytes ch none le
+changed a b l None ch none le = steps.drops l ch none le
+
+pub refused_change : (a b : State) (l : Loc) (bytes : Option (List ℕ)) (e : DeskError) → b.told ≡ a.told → b.kept ≡ a.kept → b.asked ≡ a.asked → a.faults ≤ b.faults
+    → (e ≡ errors.Failed → Rose a.faults b.faults) → IsRefusedChange a b (edit_of l bytes) e
+refused_change a b l bytes e told kept none le fails = record { edit = is_edit l bytes; unchanged = (told, kept, none); counted = le; failed = fails }
 
 -- a change writes nothing
 pub after_change : (a b : State) (o : Order) (w : Option (List ℕ)) (f : ℕ) (r : Result Status Halt) → AfterChange a b o r → AfterOrder a b o (output w w f f) r
@@ -122,28 +131,28 @@ after_drop a b l o w f r is h = subst (λ x. AfterOrder a b x (output w w f f) r
 
 -- a change for whose bytes there is no memory
 pub no_bytes : (a : State) (l : Loc) (bytes : List ℕ) (w : Option (List ℕ)) (f : ℕ) → AfterOrder a a (Set l bytes) (output w w f f) (Err (halts.Refused errors.Memory))
-no_bytes a l bytes w f = (record { edit = tt; counted = omega arith; failed = λ e. cc }, gains-nothing w f)
+no_bytes a l bytes w f = (record { edit = tt; unchanged = (refl, refl, refl); counted = omega arith; failed = λ e. cc }, gains-nothing w f)
 
 module _ (a b : State) (l : Loc) (place : List ℕ) (named : place ≡ loc_text l) (told : b.told ≡ a.told) (le : a.faults ≤ b.faults) (w : Output) where
-  module _ (line : Line) (is : IsAnswer a.told a.kept l b.kept line) where
+  module _ (line : Line) (is : IsAnswer a.told a.kept l b.kept line) (most : b.asked ≤ a.asked + line.asked) where
     pub answered : Gains w (place ++ (codes ": " ++ (line.text ++ (codes " (asked " ++ (decimal line.asked ++ codes ")\n"))))) → IsFollowed a b (Ask l) w line.status
-    answered g = record { line = ask_line l line.text line.asked; refused = []; follows = steps.answers l line is told le; gains = subst (λ p. Gains w (p ++ (codes ": " ++ (line.text ++ (codes " (asked " ++ (decimal line.asked ++ codes ")\n")))))) named g }
+    answered g = record { line = ask_line l line.text line.asked; refused = []; follows = steps.answers l line is told most le; gains = subst (λ p. Gains w (p ++ (codes ": " ++ (line.text ++ (codes " (asked " ++ (decimal line.asked ++ codes ")\n")))))) named g }
 
     pub answer_cut : Stops w (place ++ (codes ": " ++ (line.text ++ (codes " (asked " ++ (decimal line.asked ++ codes ")\n"))))) → IsCutOff a b (Ask l) w
     answer_cut g = record {
       line = ask_line l line.text line.asked;
       status = line.status;
       refused = [];
-      follows = steps.answers l line is told le;
+      follows = steps.answers l line is told most le;
       stops = subst (λ p. Stops w (p ++ (codes ": " ++ (line.text ++ (codes " (asked " ++ (decimal line.asked ++ codes ")\n")))))) named g;
     }
 
-  module _ (f : WatchFault) (is : IsRefusal a.told a.kept l b.kept f) (fails : f ≡ faults.Failed → Rose a.faults b.faults) where
+  module _ (f : WatchFault) (is : IsRefusal a.told a.kept l b.kept f) (most : AsksOneMore a.kept b.kept a.asked b.asked) (fails : f ≡ faults.Failed → Rose a.faults b.faults) where
     pub refused_ask : Gains w (place ++ (codes ": " ++ (refusal_text (refusal_of f) ++ codes "\n"))) → IsFollowed a b (Ask l) w (refusal_status (refusal_of f))
     refused_ask g = record {
       line = refused_line l (refusal_of f);
       refused = refusal_of f ∷ [];
-      follows = steps.refuses l f is told le fails;
+      follows = steps.refuses l f is told most le fails;
       gains = subst (λ p. Gains w (p ++ (codes ": " ++ (refusal_text (refusal_of f) ++ codes "\n")))) named g;
     }
 
@@ -152,6 +161,6 @@ module _ (a b : State) (l : Loc) (place : List ℕ) (named : place ≡ loc_text 
       line = refused_line l (refusal_of f);
       status = refusal_status (refusal_of f);
       refused = refusal_of f ∷ [];
-      follows = steps.refuses l f is told le fails;
+      follows = steps.refuses l f is told most le fails;
       stops = subst (λ p. Stops w (p ++ (codes ": " ++ (refusal_text (refusal_of f) ++ codes "\n")))) named g;
     }

@@ -158,7 +158,7 @@ record Next (c : State) (o : Order) (line : List ℕ) (t : Status) (more : List 
 
 next : (b c : State) (o : Order) (line : List ℕ) (t : Status) (more : List Refusal) → Follows b c o line t more
     → (now : Now) (asked : List Loc) (exact : Bool) → Stands b now asked exact → Next c o line t more now asked exact
-next b c _ _ _ _ (steps.sets l bytes ch le) now asked exact g =
+next b c _ _ _ _ (steps.sets l bytes ch none le) now asked exact g =
     let (then_told, is, put) = ch.put g.told g.is in
     record {
       then_now = set l bytes now;
@@ -173,7 +173,7 @@ next b c _ _ _ _ (steps.sets l bytes ch le) now asked exact g =
       };
       before = λ rest out s refused h. sets h;
     }
-next b c _ _ _ _ (steps.drops l ch le) now asked exact g =
+next b c _ _ _ _ (steps.drops l ch none le) now asked exact g =
     let (then_told, is, put) = ch.put g.told g.is in
     record {
       then_now = dropped l now;
@@ -188,7 +188,7 @@ next b c _ _ _ _ (steps.drops l ch le) now asked exact g =
       };
       before = λ rest out s refused h. drops h;
     }
-next b c _ _ _ _ (steps.answers l line is told le) now asked exact g =
+next b c _ _ _ _ (steps.answers l line is told most le) now asked exact g =
     let a = is g.told g.is asked g.least in
     record {
       then_now = now;
@@ -198,7 +198,7 @@ next b c _ _ _ _ (steps.answers l line is told le) now asked exact g =
       before = λ rest out s refused h.
           asks (asked-same g.told now asked l line.text line.status a.most a.new g.same a.is_asked) a.fewer (λ e. (a.exact (g.most e)).0) h;
     }
-next b c _ _ _ _ (steps.refuses l f is told le fails) now asked exact g =
+next b c _ _ _ _ (steps.refuses l f is told most le fails) now asked exact g =
     let r = is g.told g.is in
     record {
       then_now = now;
@@ -269,10 +269,10 @@ failures-both (TooMany ∷ xs) ys = failures-both xs ys
 failures-both (Memory ∷ xs) ys = failures-both xs ys
 
 rises : (b c : State) (o : Order) (line : List ℕ) (t : Status) (more : List Refusal) → Follows b c o line t more → b.faults ≤ c.faults
-rises b c _ _ _ _ (steps.sets l bytes ch le) = le
-rises b c _ _ _ _ (steps.drops l ch le) = le
-rises b c _ _ _ _ (steps.answers l line is told le) = le
-rises b c _ _ _ _ (steps.refuses l f is told le fails) = le
+rises b c _ _ _ _ (steps.sets l bytes ch none le) = le
+rises b c _ _ _ _ (steps.drops l ch none le) = le
+rises b c _ _ _ _ (steps.answers l line is told most le) = le
+rises b c _ _ _ _ (steps.refuses l f is told most le fails) = le
 
 rose-once : (b c : ℕ) → Rose b c → RoseBy 1 b c
 rose-once b c (inl h) = inl (omega arith)
@@ -284,10 +284,10 @@ refused-once faults.TooMany b c le h = inl (omega arith)
 refused-once faults.Memory b c le h = inl (omega arith)
 
 counted-once : (b c : State) (o : Order) (line : List ℕ) (t : Status) (more : List Refusal) → Follows b c o line t more → RoseBy (failures more) b.faults c.faults
-counted-once b c _ _ _ _ (steps.sets l bytes ch le) = inl (omega (arith, le))
-counted-once b c _ _ _ _ (steps.drops l ch le) = inl (omega (arith, le))
-counted-once b c _ _ _ _ (steps.answers l line is told le) = inl (omega (arith, le))
-counted-once b c _ _ _ _ (steps.refuses l f is told le fails) = refused-once f b.faults c.faults le fails
+counted-once b c _ _ _ _ (steps.sets l bytes ch none le) = inl (omega (arith, le))
+counted-once b c _ _ _ _ (steps.drops l ch none le) = inl (omega (arith, le))
+counted-once b c _ _ _ _ (steps.answers l line is told most le) = inl (omega (arith, le))
+counted-once b c _ _ _ _ (steps.refuses l f is told most le fails) = refused-once f b.faults c.faults le fails
 
 both : (m n a b c : ℕ) → b ≤ c → RoseBy m a b → RoseBy n b c → RoseBy (m + n) a c
 both m n a b c le (inl p) (inl q) = inl (omega arith)
@@ -304,4 +304,4 @@ counted_of a c _ _ _ _ (goes_on {b = b} {orders = orders} {o = o} {out = out} {l
 -- so these orders are done
 pub does_of : (a b : State) (orders : List Order) (out : List ℕ) (s : Status) (refused : List Refusal) → Goes a b orders out s refused → Does a b orders out s
 does_of a b orders out s refused g =
-    record { refused = refused; tried = λ told kept. tried_of a told kept b orders out s refused g; counted = counted_of a b orders out s refused g }
+    record { refused = refused; goes = g; tried = λ told kept. tried_of a told kept b orders out s refused g; counted = counted_of a b orders out s refused g }

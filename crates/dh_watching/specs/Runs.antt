@@ -10,16 +10,10 @@ use Rattle.dh_script.specs.declared.faults.ScriptFault.TheVariants as faults
 use Rattle.dh_script.specs.Faults.{IsRefused, fault_line}
 use Rattle.dh_script_laws.specs.Answering.{Refusal, Failed, TooMany, Memory}
 use Rattle.dh_script_laws.specs.Scripts.{Tried, refusal_status, refusal_text}
+use Rattle.dh_streams.specs.Deliveries.{Delivers}
 use Rattle.dh_streams.specs.Streams.{Gains, Input, IsLeft, IsTaken, Output, Stops, Tries}
 use Rattle.dh_watch_laws.specs.ScriptLines.{IsScript, Order}
-use Rattle.dh_watching.specs.Steps.{IsEdit, State}
-
--- How a response is written: whole, with its status; or a write to standard output failed, and the line `write failed` was
--- tried on standard error; or a write to standard error failed.
-pub data Delivers (w : Response) (out err : Output) (s : Status) : Type 0 where
-  whole : Gains out w.out → Gains err w.err → s ≡ w.status → Delivers w out err s
-  out_failed : Stops out w.out → Tries err (line write_line) → s ≡ status.Write → Delivers w out err s
-  err_failed : Gains out w.out → Stops err w.err → s ≡ status.Write → Delivers w out err s
+use Rattle.dh_watching.specs.Steps.{Goes, IsEdit, IsUnchanged, State}
 
 -- ---- runs that are refused before the first order
 
@@ -49,10 +43,12 @@ failures (Memory ∷ fs) = failures fs
 abbrev pub RoseBy : ℕ → ℕ → ℕ → Type 0
 RoseBy n before after = (n + before ≤ after) ⊎ (2 ^ 64 - 1 ≤ after)
 
--- These orders were followed: from contents that are told and empty, with nothing kept, this is what they write where asks may be
--- refused; and so many calls have failed as refusals tell.
+-- These orders were followed, one after the other: each asked for no more texts than its line tells, or its refusal leaves, and one. From
+-- contents that are told and empty, with nothing kept, this is what they write where asks may be refused; and so many calls have failed as
+-- refusals tell.
 pub record Does (a b : State) (orders : List Order) (out : List ℕ) (s : Status) : Type 0 where
   pub refused : List Refusal
+  pub goes : Goes a b orders out s refused
   pub tried : a.told ≡ Some [] → a.kept ≡ [] → Tried [] [] true orders out s refused
   pub counted : RoseBy (failures refused) a.faults b.faults
 
@@ -64,9 +60,9 @@ EndsWith text t err s = (Gains err (line text) × (s ≡ t)) ⊎ (Stops err (lin
 pub data Ends (orders : List Order) (a b : State) (out err : Output) (s : Status) : Type 0 where
   -- all were followed
   through : (told : List ℕ) → Does a b orders told s → Gains out told → Gains err [] → Ends orders a b out err s
-  -- a change was refused, after what stands before it was written
+  -- a change was refused, after what stands before it was written, and left all as it was
   refused : (before after : List Order) (o : Order) (c : State) (told : List ℕ) (t : Status) (f : Refusal) → orders ≡ before ++ o ∷ after → IsEdit o
-      → Does a c before told t → (f ≡ Failed) ⊎ (f ≡ Memory) → c.faults ≤ b.faults → (f ≡ Failed → Rose c.faults b.faults)
+      → Does a c before told t → (f ≡ Failed) ⊎ (f ≡ Memory) → IsUnchanged c b → c.faults ≤ b.faults → (f ≡ Failed → Rose c.faults b.faults)
       → Gains out told → EndsWith (refusal_text f) (refusal_status f) err s → Ends orders a b out err s
   -- a line was not written whole
   cut : (before after : List Order) (told : List ℕ) (t : Status) → orders ≡ before ++ after → Does a b before told t → Stops out told

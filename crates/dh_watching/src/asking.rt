@@ -9,7 +9,7 @@ ghost use Rattle.dh_watching.specs.Steps.{refusal_of};
 use crate::watches::{Line, WatchFault};
 use dh_command::Status;
 use dh_ports::{Sink, WriteError};
-use dh_streams::{write_all, write_both};
+use dh_streams::write_both;
 use itoa::Buffer;
 
 /// What tells an ask of a location that was answered, behind the location's text.
@@ -24,7 +24,7 @@ fn write_told<O: Sink>(out: &mut O, line: &Line) -> Result<(), WriteError>
 }
 
 /// Writes the line of an ask that was answered.
-pub(crate) fn write_answer<O: Sink>(out: &mut O, place: &str, line: &Line) -> Result<(), WriteError>
+pub fn write_answer<O: Sink>(out: &mut O, place: &str, line: &Line) -> Result<(), WriteError>
     ensures ok { OnOk result (Gains (output (O.written out.old) (O.written out.new) (O.faults out.old) (O.faults out.new)) (place.now ++ (codes ": " ++ (line.now.text ++ (codes " (asked " ++ (decimal line.now.asked ++ codes ")\n")))))) }
     ensures err { OnErr result (Stops (output (O.written out.old) (O.written out.new) (O.faults out.old) (O.faults out.new)) (place.now ++ (codes ": " ++ (line.now.text ++ (codes " (asked " ++ (decimal line.now.asked ++ codes ")\n")))))) }
 {
@@ -34,19 +34,19 @@ pub(crate) fn write_answer<O: Sink>(out: &mut O, place: &str, line: &Line) -> Re
     }
 }
 
-/// What tells a refusal, with its line feed.
-fn refusal_line(fault: WatchFault) -> &'static str
-    ensures { result.now ≡ refusal_text (refusal_of fault) ++ codes "\n" }
+/// What tells a refusal, without a line feed.
+pub fn refusal_text(fault: WatchFault) -> &'static str
+    ensures { result.now ≡ refusal_text (refusal_of fault) }
 {
     match fault {
-        WatchFault::Failed => "device failed\n",
-        WatchFault::TooMany => "more than 4096 imports\n",
-        WatchFault::Memory => "out of memory\n",
+        WatchFault::Failed => "device failed",
+        WatchFault::TooMany => "more than 4096 imports",
+        WatchFault::Memory => "out of memory",
     }
 }
 
 /// How a run with this refusal ends.
-pub(crate) fn refusal_status(fault: WatchFault) -> Status
+pub fn refusal_status(fault: WatchFault) -> Status
     ensures { result ≡ refusal_status (refusal_of fault) }
 {
     match fault {
@@ -57,16 +57,12 @@ pub(crate) fn refusal_status(fault: WatchFault) -> Status
 }
 
 /// Writes the line of an ask that was refused.
-pub(crate) fn write_refusal<O: Sink>(
-    out: &mut O,
-    place: &str,
-    fault: WatchFault,
-) -> Result<(), WriteError>
+pub fn write_refusal<O: Sink>(out: &mut O, place: &str, fault: WatchFault) -> Result<(), WriteError>
     ensures ok { OnOk result (Gains (output (O.written out.old) (O.written out.new) (O.faults out.old) (O.faults out.new)) (place.now ++ (codes ": " ++ (refusal_text (refusal_of fault) ++ codes "\n")))) }
     ensures err { OnErr result (Stops (output (O.written out.old) (O.written out.new) (O.faults out.old) (O.faults out.new)) (place.now ++ (codes ": " ++ (refusal_text (refusal_of fault) ++ codes "\n")))) }
 {
     match write_both(out, place.as_bytes(), b": ") {
-        Ok(()) => write_all(out, refusal_line(fault).as_bytes()),
+        Ok(()) => write_both(out, refusal_text(fault).as_bytes(), b"\n"),
         Err(fault) => Err(fault),
     }
 }

@@ -34,8 +34,8 @@ pub(crate) struct Gone {
     pub halt: Option<Halt>,
 }
 
-/// The status of a script up to here, where this is that of its next line.
-fn first_fault(so_far: Status, next: Status) -> Status
+/// The first of two statuses that is not good: how a run ends whose lines have these, one after the other.
+pub fn first_fault(so_far: Status, next: Status) -> Status
     ensures { result ≡ first_fault so_far next }
 {
     match so_far {
@@ -49,7 +49,7 @@ fn change<W: Watches>(watch: &mut W, loc: &Loc, bytes: Option<Bytes>) -> Result<
     requires place { IsPlace loc.now }
     requires agrees { W.agrees watch.old }
     ensures agrees { W.agrees watch.new }
-    ensures change { AfterChange (state (W.now watch.old) (W.kept watch.old) (W.faults watch.old)) (state (W.now watch.new) (W.kept watch.new) (W.faults watch.new)) (edit_of loc.now bytes) result }
+    ensures change { AfterChange (state (W.now watch.old) (W.kept watch.old) (W.asked watch.old) (W.faults watch.old)) (state (W.now watch.new) (W.kept watch.new) (W.asked watch.new) (W.faults watch.new)) (edit_of loc.now bytes) result }
 {
     match watch.change(loc, bytes) {
         Ok(()) => Ok(Status::Ok),
@@ -68,7 +68,7 @@ fn ask<W: Watches, O: Sink>(
     requires named { place.now ≡ loc_text loc.now }
     requires agrees { W.agrees watch.old }
     ensures agrees { W.agrees watch.new }
-    ensures order { AfterOrder (state (W.now watch.old) (W.kept watch.old) (W.faults watch.old)) (state (W.now watch.new) (W.kept watch.new) (W.faults watch.new)) (Ask loc.now)
+    ensures order { AfterOrder (state (W.now watch.old) (W.kept watch.old) (W.asked watch.old) (W.faults watch.old)) (state (W.now watch.new) (W.kept watch.new) (W.asked watch.new) (W.faults watch.new)) (Ask loc.now)
         (output (O.written out.old) (O.written out.new) (O.faults out.old) (O.faults out.new)) result }
 {
     match watch.ask(loc) {
@@ -95,7 +95,7 @@ fn follow<W: Watches, O: Sink>(
     requires named { place.now ≡ loc_text (location_of order.now) }
     requires agrees { W.agrees watch.old }
     ensures agrees { W.agrees watch.new }
-    ensures order { AfterOrder (state (W.now watch.old) (W.kept watch.old) (W.faults watch.old)) (state (W.now watch.new) (W.kept watch.new) (W.faults watch.new)) (order_of order.now)
+    ensures order { AfterOrder (state (W.now watch.old) (W.kept watch.old) (W.asked watch.old) (W.faults watch.old)) (state (W.now watch.new) (W.kept watch.new) (W.asked watch.new) (W.faults watch.new)) (order_of order.now)
         (output (O.written out.old) (O.written out.new) (O.faults out.old) (O.faults out.new)) result }
 {
     match order {
@@ -121,7 +121,7 @@ pub(crate) fn go_through<W: Watches, O: Sink>(
     requires named { places.now ≡ map (λ o. loc_text (location_of o)) orders.now }
     requires agrees { W.agrees watch.old }
     ensures agrees { W.agrees watch.new }
-    ensures gone { IsGone (state (W.now watch.old) (W.kept watch.old) (W.faults watch.old)) (state (W.now watch.new) (W.kept watch.new) (W.faults watch.new)) (orders_of orders.now)
+    ensures gone { IsGone (state (W.now watch.old) (W.kept watch.old) (W.asked watch.old) (W.faults watch.old)) (state (W.now watch.new) (W.kept watch.new) (W.asked watch.new) (W.faults watch.new)) (orders_of orders.now)
         (output (O.written out.old) (O.written out.new) (O.faults out.old) (O.faults out.new)) result }
 {
     let mut status = Status::Ok;

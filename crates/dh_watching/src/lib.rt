@@ -7,7 +7,6 @@
 #![tactic(auto)]
 
 mod asking;
-mod delivery;
 mod following;
 pub mod laws;
 mod places;
@@ -15,9 +14,10 @@ mod program;
 mod runs;
 mod watches;
 
-pub use delivery::{deliver, lack_memory};
+pub use asking::{refusal_status, refusal_text, write_answer, write_refusal};
+pub use following::first_fault;
 pub use program::told_words;
-pub use runs::run_watch;
+pub use runs::{end_refused, run_watch};
 pub use watches::{Line, WatchFault, Watches};
 
 #[cfg(test)]

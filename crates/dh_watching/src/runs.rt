@@ -4,18 +4,18 @@ ghost use Rattle.std.specs.Prelude.{◌≡◌, ℕ, List, [], All, map, string_b
 ghost use Rattle.dh_script.specs.Orders.{IsFit, orders_of};
 ghost use Rattle.dh_script_laws.specs.Scripts.{refusal_status, refusal_text};
 ghost use Rattle.dh_streams.specs.Streams.{output, reading};
-ghost use Rattle.dh_watching.specs.Inside.Read.{EndsWithBytes, FollowsOrders, FollowsText, IsEnded, ToldFault, refusal_of_desk};
+ghost use Rattle.dh_watching.specs.Inside.Read.{FollowsOrders, FollowsText, IsEnded, ToldFault, refusal_of_desk};
 ghost use Rattle.dh_watching.specs.Runs.{EndsWith, Runs, fault_status};
-ghost use Rattle.dh_watching.specs.Steps.{state};
+ghost use Rattle.dh_watching.specs.Steps.{refusal_of, state};
 
-use crate::delivery::{deliver, lack_memory, tell_failure};
+use crate::asking::{refusal_status, refusal_text};
 use crate::following::{Gone, Halt, go_through};
 use crate::places::places_of;
-use crate::watches::Watches;
+use crate::watches::{WatchFault, Watches};
 use dh_command::Status;
 use dh_ports::{DeskError, Feed, Sink};
 use dh_script::{Order, ScriptFault, read_script};
-use dh_streams::{InputFault, read_input, write_all};
+use dh_streams::{InputFault, deliver, lack_memory, read_input, tell_failure, write_both};
 use std::alloc::Global;
 
 /// The status of a run on bytes that are no script.
@@ -47,23 +47,23 @@ fn tell_fault<O: Sink, E: Sink>(
     }
 }
 
-/// Tells on standard error why a change was refused, and answers how the run ended.
-fn tell_change<E: Sink>(fault: DeskError, err: &mut E) -> Status
-    ensures { EndsWith (refusal_text (refusal_of_desk fault)) (refusal_status (refusal_of_desk fault)) (output (E.written err.old) (E.written err.new) (E.faults err.old) (E.faults err.new)) result }
+/// Writes what tells a refusal to standard error, as the last line of a run, and answers how the run ended.
+pub fn end_refused<E: Sink>(fault: WatchFault, err: &mut E) -> Status
+    ensures { EndsWith (refusal_text (refusal_of fault)) (refusal_status (refusal_of fault)) (output (E.written err.old) (E.written err.new) (E.faults err.old) (E.faults err.new)) result }
 {
-    match fault {
-        DeskError::Failed => end_with(b"device failed\n", Status::Desk, err),
-        DeskError::Memory => end_with(b"out of memory\n", Status::Memory, err),
+    match write_both(err, refusal_text(fault).as_bytes(), b"\n") {
+        Ok(()) => refusal_status(fault),
+        Err(_) => Status::Write,
     }
 }
 
-/// Writes the last line of a run, and answers how it ended.
-fn end_with<E: Sink>(line: &[u8], status: Status, err: &mut E) -> Status
-    ensures { EndsWithBytes line.now status (output (E.written err.old) (E.written err.new) (E.faults err.old) (E.faults err.new)) result }
+/// Ends a run in which a change was refused.
+fn end_change<E: Sink>(fault: DeskError, err: &mut E) -> Status
+    ensures { EndsWith (refusal_text (refusal_of_desk fault)) (refusal_status (refusal_of_desk fault)) (output (E.written err.old) (E.written err.new) (E.faults err.old) (E.faults err.new)) result }
 {
-    match write_all(err, line) {
-        Ok(()) => status,
-        Err(_) => Status::Write,
+    match fault {
+        DeskError::Failed => end_refused(WatchFault::Failed, err),
+        DeskError::Memory => end_refused(WatchFault::Memory, err),
     }
 }
 
@@ -77,7 +77,7 @@ fn end<E: Sink>(gone: Gone, err: &mut E) -> Status
             tell_failure(err);
             Status::Write
         }
-        Some(Halt::Refused(fault)) => tell_change(fault, err),
+        Some(Halt::Refused(fault)) => end_change(fault, err),
     }
 }
 
@@ -93,7 +93,7 @@ fn follow_orders<W: Watches, O: Sink, E: Sink>(
     requires agrees { W.agrees watch.old }
     ensures agrees { W.agrees watch.new }
     ensures follows { FollowsOrders (orders_of orders.now)
-        (state (W.now watch.old) (W.kept watch.old) (W.faults watch.old)) (state (W.now watch.new) (W.kept watch.new) (W.faults watch.new))
+        (state (W.now watch.old) (W.kept watch.old) (W.asked watch.old) (W.faults watch.old)) (state (W.now watch.new) (W.kept watch.new) (W.asked watch.new) (W.faults watch.new))
         (output (O.written out.old) (O.written out.new) (O.faults out.old) (O.faults out.new))
         (output (E.written err.old) (E.written err.new) (E.faults err.old) (E.faults err.new)) result }
 {
@@ -117,7 +117,7 @@ fn follow_text<W: Watches, O: Sink, E: Sink>(
     requires agrees { W.agrees watch.old }
     ensures agrees { W.agrees watch.new }
     ensures follows { FollowsText text.now
-        (state (W.now watch.old) (W.kept watch.old) (W.faults watch.old)) (state (W.now watch.new) (W.kept watch.new) (W.faults watch.new))
+        (state (W.now watch.old) (W.kept watch.old) (W.asked watch.old) (W.faults watch.old)) (state (W.now watch.new) (W.kept watch.new) (W.asked watch.new) (W.faults watch.new))
         (output (O.written out.old) (O.written out.new) (O.faults out.old) (O.faults out.new))
         (output (E.written err.old) (E.written err.new) (E.faults err.old) (E.faults err.new)) result }
 {
@@ -139,7 +139,7 @@ fn run_script<W: Watches, I: Feed, O: Sink, E: Sink>(
     ensures agrees { W.agrees watch.new }
     ensures runs { (words : List (List ℕ)) → words ≡ [] → Runs words
         (reading (I.left input.old) (I.left input.new) (I.faults input.old) (I.faults input.new))
-        (state (W.now watch.old) (W.kept watch.old) (W.faults watch.old)) (state (W.now watch.new) (W.kept watch.new) (W.faults watch.new))
+        (state (W.now watch.old) (W.kept watch.old) (W.asked watch.old) (W.faults watch.old)) (state (W.now watch.new) (W.kept watch.new) (W.asked watch.new) (W.faults watch.new))
         (output (O.written out.old) (O.written out.new) (O.faults out.old) (O.faults out.new))
         (output (E.written err.old) (E.written err.new) (E.faults err.old) (E.faults err.new)) result }
 {
@@ -164,7 +164,7 @@ pub fn run_watch<W: Watches, I: Feed, O: Sink, E: Sink>(
     ensures agrees { W.agrees watch.new }
     ensures runs { Runs (map string_bytes words.now)
         (reading (I.left input.old) (I.left input.new) (I.faults input.old) (I.faults input.new))
-        (state (W.now watch.old) (W.kept watch.old) (W.faults watch.old)) (state (W.now watch.new) (W.kept watch.new) (W.faults watch.new))
+        (state (W.now watch.old) (W.kept watch.old) (W.asked watch.old) (W.faults watch.old)) (state (W.now watch.new) (W.kept watch.new) (W.asked watch.new) (W.faults watch.new))
         (output (O.written out.old) (O.written out.new) (O.faults out.old) (O.faults out.new))
         (output (E.written err.old) (E.written err.new) (E.faults err.old) (E.faults err.new)) result }
 {

@@ -90,12 +90,15 @@ impl Watches for Made {
 
     ghost kept = { λ _. [] };
 
+    ghost asked = { λ _. 0 };
+
     ghost faults = { λ m. m.failed };
 
     fn change(&mut self, _loc: &Loc, _bytes: Option<Bytes>) -> Result<(), DeskError> {
         self.call()
     }
 
+    #[tactic(auto, using(crate::proofs::Stepping::none_new))]
     fn ask(&mut self, loc: &Loc) -> Result<Line, WatchFault> {
         if self.call().is_err() {
             return Err(WatchFault::Failed);

@@ -9,7 +9,8 @@
 
 use dh_desks::{Folders, make_desks};
 use dh_ports::{OpenGate, Silent};
-use dh_program::{Source, Target, exit_code, lack_memory, run_program};
+use dh_streams::{Source, Target};
+use dh_top::{exit_code, lack_memory, run_program};
 use std::env;
 use std::process::ExitCode;
 

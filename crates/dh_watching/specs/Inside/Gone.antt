@@ -11,7 +11,7 @@ use Rattle.dh_watch_laws.specs.ScriptLines.{Order, Set, Drop}
 use Rattle.dh_watching.specs.declared.following.Gone.{Gone}
 use Rattle.dh_watching.specs.declared.following.Halt.{Halt}
 use Rattle.dh_watching.specs.declared.following.Halt.TheVariants as halts
-use Rattle.dh_watching.specs.Steps.{Follows, Goes, State, IsEdit}
+use Rattle.dh_watching.specs.Steps.{Follows, Goes, State, IsEdit, IsUnchanged}
 
 -- the order of a change to these bytes, or to none
 abbrev pub edit_of : Loc → Option (List ℕ) → Order
@@ -21,6 +21,7 @@ edit_of l None = Drop l
 -- a change was refused
 pub record IsRefusedChange (a b : State) (o : Order) (e : DeskError) : Type 0 where
   pub edit : IsEdit o
+  pub unchanged : IsUnchanged a b
   pub counted : a.faults ≤ b.faults
   pub failed : e ≡ errors.Failed → Rose a.faults b.faults
 

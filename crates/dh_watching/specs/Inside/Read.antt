@@ -10,22 +10,19 @@ use Rattle.dh_script.specs.declared.faults.ScriptFault.{ScriptFault}
 use Rattle.dh_script.specs.Faults.{IsRefused, fault_line}
 use Rattle.dh_script_laws.specs.Answering.{Refusal, Failed, Memory}
 use Rattle.dh_script_laws.specs.Scripts.{refusal_status, refusal_text}
-use Rattle.dh_streams.specs.Streams.{Gains, Output, Stops, Tries}
+use Rattle.dh_streams.specs.Streams.{Gains, Output, Tries}
 use Rattle.dh_watch_laws.specs.ScriptLines.{IsScript, Order}
 use Rattle.dh_watching.specs.declared.following.Gone.{Gone}
 use Rattle.dh_watching.specs.declared.following.Halt.{Halt}
 use Rattle.dh_watching.specs.declared.following.Halt.TheVariants as halts
-use Rattle.dh_watching.specs.Runs.{Delivers, Ends, EndsWith, fault_status}
+use Rattle.dh_streams.specs.Deliveries.{Delivers}
+use Rattle.dh_watching.specs.Runs.{Ends, EndsWith, fault_status}
 use Rattle.dh_watching.specs.Steps.{State}
 
 -- why a change was refused
 abbrev pub refusal_of_desk : DeskError → Refusal
 refusal_of_desk errors.Failed = Failed
 refusal_of_desk errors.Memory = Memory
-
--- these bytes end a run with this status; or they were not written whole
-abbrev pub EndsWithBytes : List ℕ → Status → Output → Status → Type 0
-EndsWithBytes bytes t err s = (Gains err bytes × (s ≡ t)) ⊎ (Stops err bytes × (s ≡ status.Write))
 
 -- why bytes are no script was told, or that memory was wanting for that
 abbrev pub ToldFault : ScriptFault → Output → Output → Status → Type 0

@@ -1,5 +1,5 @@
 use Rattle.std.proofs.Common.{refl, sym, ◌∙◌, ap, map, string_bytes, Err}
-use Rattle.dh_top.specs.Runs.{most_read}
+use Rattle.dh_streams.specs.Streams.{most_read}
 use Rattle.dh_top.proofs.Encodings.{performs_apart, performs_command, performs_unread, lacks_apart, lacks_command, lacks_before}
 use Rattle.dh_top.proofs.Generated.{generated_performs}
 use Rattle.dh_top.proofs.Operands.{gen_of, number_fit}

@@ -1,0 +1,4 @@
+pub mod FilesRuns
+pub mod Inside
+pub mod Showing
+pub mod Words
