@@ -1,7 +1,7 @@
 -- Asks are answered, and refused, by what is kept.
-use Rattle.std.specs.Prelude.{◌≡◌, ◌⊎◌, ◌↔◌, ◌+◌, ◌≤◌, ◌<◌, ◌-◌, ◌++◌, ℕ, true, false, List, [], ◌∷◌, length, Option, Some, None, Result, Ok, Err, IfErr, refl}
+use Rattle.std.specs.Prelude.{◌≡◌, ◌⊎◌, ◌↔◌, ◌+◌, ◌≤◌, ◌-◌, ◌++◌, ℕ, true, false, List, [], ◌∷◌, length, Option, Some, None, Result, Ok, Err, IfErr, OnErr, refl}
 use Rattle.std.specs.Result.{IsErrAnd}
-use Rattle.std.proofs.Common.{ap, sym, ◌∙◌, subst, inl, inr, arith}
+use Rattle.std.proofs.Common.{ap, sym, subst, inl, inr, arith}
 use Rattle.dh_syntax.specs.declared.locations.Key.{Key}
 use Rattle.dh_syntax.specs.declared.locations.Loc.{Loc}
 use Rattle.dh_syntax.specs.Expressions.SameTree.{loc_eq}
@@ -17,7 +17,7 @@ use Rattle.dh_laws.proofs.KeyOrder.{bool-case, true_false, none-some}
 use Rattle.dh_import_laws.proofs.Grow.{longer-itself}
 use Rattle.dh_import_laws.proofs.Walks.{Knows}
 use Rattle.dh_import_laws.proofs.Wants.{among_left, among_right, among-split}
-use Rattle.dh_script_laws.specs.Answering.{AreAmong, IsAnswered, IsAnsweredAs, IsRefused, Refusal, Failed, TooMany, Memory}
+use Rattle.dh_script_laws.specs.Answering.{AreAmong, IsAnswered, IsAnsweredAs, IsRefused, TooMany, Memory}
 use Rattle.dh_script_laws.specs.Asks.{AreLicensed, IsAsked, RootLine, root_key, root_of}
 use Rattle.dh_watch.specs.Watchers.{IsStopped}
 use Rattle.dh_watch_laws.specs.Asking.{Asked, Decides}
@@ -27,6 +27,7 @@ use Rattle.dh_watch_laws.specs.Editing.{locs_of}
 use Rattle.dh_watch_laws.specs.Kept.{IsSound, Kept, known}
 use Rattle.dh_watch_laws.specs.Overflowing.{Overflows}
 use Rattle.dh_watch_laws.specs.Sweeping.{AreOf}
+use Rattle.dh_watch_laws.specs.Visiting.{IsClosed}
 use Rattle.dh_watch_laws.proofs.Asking.{asks_decide}
 use Rattle.dh_watch_laws.proofs.Counting.{due-has, found-in, in-found, no-longer}
 use Rattle.dh_watch_laws.proofs.Holding.{has-grown}
@@ -35,11 +36,11 @@ use Rattle.dh_watch_laws.proofs.Overflowing.{many_overflow}
 use Rattle.dh_watch_laws.proofs.Visiting.{from-settled}
 use Rattle.dh_watch_runs.specs.declared.deciding.Stop.{Stop}
 use Rattle.dh_watch_runs.specs.declared.deciding.Stop.TheVariants as stops
-use Rattle.dh_watch_runs.specs.Resolving.{HasMany}
+use Rattle.dh_watch_runs.specs.Resolving.{AsksFor, HasMany}
 use Rattle.dh_watching.specs.declared.watches.Line.{Line}
 use Rattle.dh_watching.specs.declared.watches.WatchFault.{WatchFault}
 use Rattle.dh_watching.specs.declared.watches.WatchFault.TheVariants as faults
-use Rattle.dh_watching.specs.Steps.{IsAnswer, IsRefusal, refusal_of}
+use Rattle.dh_watching.specs.Steps.{AsksOneMore, IsAnswer, IsRefusal, refusal_of}
 use Rattle.dh_watch_asks.specs.Stops.{fault_of}
 
 -- ---- locations beside others
@@ -85,6 +86,12 @@ beside others (y ∷ ys) o = go (among-loc y others) (beside others ys o.1)
 
 -- ---- an ask that is answered
 
+-- a text that is asked is recorded
+asked-recorded : (s : Kept) (root : Key) (ask : Ask) → IsClosed s.recorded ask → (o : Outcome) × (ask root ≡ Some o) → (x : Loc) → IsAskedText s.recorded ask root x
+    → (t : Noted) × (text_at s.recorded x ≡ Some t)
+asked-recorded s root ask closed known-root x (j, f, p) =
+    let o = from-settled s.recorded ask closed f known-root in due-has s.recorded ask j x p (closed j o.0 o.1)
+
 licensed : (s : Kept) → IsSound s → (n : ℕ) → Knows (known s.outcomes) (resolve s.recorded n []) → AreLicensed s.recorded n
 licensed s h n more k w e =
     let i = h.limited k w e in
@@ -119,10 +126,7 @@ module _ (now : Now) (old s : Kept) (l : Loc) (line : List ℕ) (st : Status) (n
 
   -- a text that is asked is recorded
   recorded_text : (x : Loc) → IsAskedText s.recorded d.ask (root_key l) x → IsAmong x (locs_of s.recorded.texts)
-  recorded_text x (j, f, p) =
-      let o = from-settled s.recorded d.ask d.closed f (d.outcome, d.decided) in
-      let t = due-has s.recorded d.ask j x p (d.closed j o.0 o.1) in
-      in-found s.recorded.texts x t.0 t.1
+  recorded_text x m = let t = asked-recorded s (root_key l) d.ask d.closed (d.outcome, d.decided) x m in in-found s.recorded.texts x t.0 t.1
 
   -- what was kept still is
   still : (x : Loc) → IsAmong x (locs_of old.recorded.texts) → IsAmong x (locs_of s.recorded.texts)
@@ -210,6 +214,56 @@ is-refused now old s l stop h g over st = record {
 
 lacks-memory : (now : Now) (old s : Kept) (l : Loc) → AreOf old.recorded.texts s.recorded.texts → IsRefused now (locs_of old.recorded.texts) (locs_of s.recorded.texts) l Memory
 lacks-memory now old s l h = record { kept = still-kept old s h; many = λ e. let f : Memory ≡ TooMany = e in cc }
+
+-- ---- what is asked for
+
+-- what is new is not kept before, and is kept
+module _ (old s : Kept) (locs : List Loc) (once : AreOnce locs) (fresh : (x : Loc) → IsAmong x locs → text_at old.recorded x ≡ None)
+    (recorded : (x : Loc) → IsAmong x locs → (t : Noted) × (text_at s.recorded x ≡ Some t)) (a b : ℕ) (most : b ≤ a + length locs + 1) where
+  one_more : AsksOneMore (locs_of old.recorded.texts) (locs_of s.recorded.texts) a b
+  one_more = record {
+    locs = locs;
+    once = once;
+    fresh = λ x m i. let t = found-in old.recorded.texts x i in none-some (fresh x m) t.1;
+    kept = λ x m. let t = recorded x m in in-found s.recorded.texts x t.0 t.1;
+    most = most;
+  }
+
+pub asks-none : (texts : List (Loc × Noted)) (a : ℕ) → AsksOneMore (locs_of texts) (locs_of texts) a a
+asks-none texts a = record { locs = []; once = tt; fresh = λ x m. absurd m; kept = λ x m. absurd m; most = omega arith }
+
+-- an ask that was refused
+grown-most : (old s : Kept) (n a b : ℕ) → length s.recorded.texts ≡ n + length old.recorded.texts → AsksFor 1 a old b s → b ≤ a + n + 1
+grown-most old s n a b e h = let k : b + length old.recorded.texts ≤ a + length s.recorded.texts + 1 = h in omega (arith, e, k)
+
+pub asks-grown : (old : Kept) (root : Key) (s : Kept) (stop : Stop) (a b : ℕ) → IsStopped old root s stop → AsksFor 1 a old b s
+    → AsksOneMore (locs_of old.recorded.texts) (locs_of s.recorded.texts) a b
+asks-grown old root s stop a b st h =
+    let g = st.grown in one_more old s g.locs g.once g.fresh g.recorded a b (grown-most old s (length g.locs) a b g.count h)
+
+-- an ask that fetched so many, for whose line memory is wanting
+pub asks-fetched : (texts : List (Loc × Noted)) (old s : Kept) (l : Loc) (n a b : ℕ) → old.recorded.texts ≡ texts → IsSound old → Asked old (root_key l) s n → b ≤ a + n
+    → AsksOneMore (locs_of texts) (locs_of s.recorded.texts) a b
+asks-fetched texts old s l n a b same h asked most =
+    let d = asks_decide old s (root_key l) n h asked in
+    let c = d.count in
+    subst (λ z. AsksOneMore (locs_of z) (locs_of s.recorded.texts) a b) same
+    (one_more old s c.locs c.once (λ x m. ((c.members x).0 m).0) (λ x m. asked-recorded s (root_key l) d.ask d.closed (d.outcome, d.decided) x ((c.members x).0 m).1) a b
+    (let e : n ≡ length c.locs = c.count in omega (arith, e, most)))
+
+-- the count of the same files
+pub asks-told : {F : Type 0} (count : F → ℕ) (f g : F) (b n k : ℕ) → g ≡ f → b ≤ count g + n → k ≡ n → b ≤ count f + k
+asks-told count f g b n k same h e = let c = ap count same in omega (arith, c, h, e)
+
+pub asks-from : {F : Type 0} (count : F → ℕ) (f g : F) (b n : ℕ) → g ≡ f → b ≤ count g + n → b ≤ count f + n
+asks-from count f g b n same h = asks-told count f g b n n same h refl
+
+-- a refusal that is handed on, where the first files and texts are those before the ask
+pub asks-handed-on : {X E F : Type 0} (r : Result X E) (count : F → ℕ) (f g : F) (texts texts' : List (Loc × Noted)) (s : Kept) (b : ℕ) → g ≡ f → texts ≡ texts'
+    → AsksOneMore (locs_of texts) (locs_of s.recorded.texts) (count g) b → OnErr r (AsksOneMore (locs_of texts') (locs_of s.recorded.texts) (count f) b)
+asks-handed-on (Ok x) count f g texts texts' s b same e h = tt
+asks-handed-on (Err y) count f g texts texts' s b same e h =
+    subst (λ z. AsksOneMore (locs_of z) (locs_of s.recorded.texts) (count f) b) e (subst (λ z. AsksOneMore (locs_of texts) (locs_of s.recorded.texts) (count z) b) same h)
 
 -- ---- over what is told of the contents
 

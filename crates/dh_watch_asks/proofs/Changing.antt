@@ -1,5 +1,5 @@
 -- Changes of what is watched.
-use Rattle.std.specs.Prelude.{◌≡◌, ◌⊎◌, ℕ, true, false, if◌then◌else◌, List, [], ◌∷◌, Option, Some, None, Result, Ok, Err, OnOk, refl}
+use Rattle.std.specs.Prelude.{◌≡◌, ◌⊎◌, ℕ, true, false, if◌then◌else◌, List, [], ◌∷◌, Option, Some, None, Result, Ok, Err, OnErr, OnOk, refl}
 use Rattle.std.proofs.Common.{ap, sym, ◌∙◌, subst, inl, inr}
 use Rattle.dh_syntax.specs.declared.locations.Loc.{Loc}
 use Rattle.dh_syntax.specs.Expressions.SameTree.{loc_eq}
@@ -73,3 +73,8 @@ pub is-change : {E : Type 0} (r : Result (Unit {0}) E) (told : Option Now) (s : 
     → OnOk r (Forgets s l s') → OnOk r (IsChange told (locs_of s.recorded.texts) l bytes told' (locs_of s'.recorded.texts))
 is-change (Ok x) told s l bytes told' s' p f = record { put = puts told l bytes told' p; keeps = keeps s s' l f; forgets = forgets s s' l f }
 is-change (Err e) told s l bytes told' s' p f = tt
+
+-- one that is refused leaves what is kept
+pub still-kept : {A E X Y : Type 0} (r : Result A E) (part : X → Y) (x x' : X) → OnErr r (x' ≡ x) → OnErr r (part x' ≡ part x)
+still-kept (Ok v) part x x' h = tt
+still-kept (Err e) part x x' h = ap part h

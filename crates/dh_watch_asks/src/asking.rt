@@ -1,6 +1,6 @@
 //! Edits and asks of files that are watched.
 
-ghost use Rattle.std.specs.Prelude.{◌≡◌, ◌≤◌, false, IfErr, IfOk, OnOk};
+ghost use Rattle.std.specs.Prelude.{◌≡◌, ◌≤◌, ◌+◌, false, IfErr, IfOk, OnErr};
 ghost use Rattle.dh_ports.specs.Counts.{Rose};
 ghost use Rattle.dh_record.specs.Entering.{keys_in};
 ghost use Rattle.dh_record.specs.Rows.{key_named};
@@ -15,7 +15,7 @@ ghost use Rattle.dh_watch_laws.specs.Kept.{IsSound};
 ghost use Rattle.dh_watch_rows.specs.KeptRows.{kept_of};
 ghost use Rattle.dh_watch_runs.specs.Asks.{ComesTo};
 ghost use Rattle.dh_watching.specs.declared.watches.WatchFault.TheVariants as faults;
-ghost use Rattle.dh_watching.specs.Steps.{IsRefusal};
+ghost use Rattle.dh_watching.specs.Steps.{AsksOneMore, IsRefusal};
 
 use crate::watched::Watch;
 use dh_ports::DeskError;
@@ -63,6 +63,9 @@ impl<F: Files, W: Worker> Watch<F, W> {
         ensures ended { IfOk result (λ r. ComesTo (root_key_of loc.now) (keys_in self.new.watcher.source.rows.keys) (kept_of self.new.watcher.source.rows) r.end) }
         ensures number { IfOk result (λ r. IsNumber self.new.watcher.source.rows.keys (root_key_of loc.now) r.root) }
         ensures refused { IfErr result (IsRefusal (F.now self.old.watcher.source.files) (locs_of (kept_of self.old.watcher.source.rows).recorded.texts) loc.now (locs_of (kept_of self.new.watcher.source.rows).recorded.texts)) }
+        ensures asks { IfOk result (λ r. F.asked self.new.watcher.source.files ≤ F.asked self.old.watcher.source.files + r.fetched) }
+        ensures asks_one { OnErr result (AsksOneMore (locs_of (kept_of self.old.watcher.source.rows).recorded.texts) (locs_of (kept_of self.new.watcher.source.rows).recorded.texts)
+            (F.asked self.old.watcher.source.files) (F.asked self.new.watcher.source.files)) }
         ensures now { F.now self.new.watcher.source.files ≡ F.now self.old.watcher.source.files }
         ensures counted { F.faults self.old.watcher.source.files ≤ F.faults self.new.watcher.source.files }
         ensures failed { IfErr result (λ f. f ≡ faults.Failed → Rose (F.faults self.old.watcher.source.files) (F.faults self.new.watcher.source.files)) }
@@ -109,6 +112,8 @@ impl<F: Files, W: Worker> Watches for Watch<F, W> {
     ghost now = { λ w. F.now w.watcher.source.files };
 
     ghost kept = { λ w. locs_of (kept_of w.watcher.source.rows).recorded.texts };
+
+    ghost asked = { λ w. F.asked w.watcher.source.files };
 
     ghost faults = { λ w. F.faults w.watcher.source.files };
 

@@ -1,10 +1,8 @@
 use Rattle.std.proofs.Common.{ap, sym, ◌∙◌, subst}
 use Rattle.dh_record.specs.Entering.{keys_in}
-use Rattle.dh_script_laws.specs.Asks.{root_key}
-use Rattle.dh_watch_laws.specs.Asking.{Asked}
 use Rattle.dh_watch_rows.specs.KeptRows.{kept_of}
 use Rattle.dh_watch_runs.specs.Asks.{ComesTo}
-use Rattle.dh_watch_asks.proofs.Answering.{answered, handed-on, lacking-line}
+use Rattle.dh_watch_asks.proofs.Answering.{answered, asks-fetched, asks-from, asks-handed-on, asks-told, handed-on, lacking-line}
 use Rattle.dh_watch_asks.proofs.asking.WatchWatches.ask.Goals as goal
 
 pub line-requires-clause-number : goal.line-requires-clause-number
@@ -37,3 +35,22 @@ returns-in-Err-clause-refused g c =
     let s = kept_of c.resolve.new.self.watcher.source.rows in
     lacking-line told (kept_of c.args.self.now.watcher.source.rows).recorded.texts old s c.args.loc.now c.in_ok-resolved.resolved.fetched c.refresh.ensures.texts c.refresh.ensures.sound
     c.in_ok-resolved.ensures.asked
+
+pub returns-in_err-resolved-clause-asks_one : goal.returns-in_err-resolved-clause-asks_one
+returns-in_err-resolved-clause-asks_one g c =
+    asks-handed-on c.from_residual.result (λ f. g.F.Files.asked f) c.args.self.now.watcher.source.files c.refresh.new.self.source.files (kept_of c.refresh.new.self.source.rows).recorded.texts
+    (kept_of c.args.self.now.watcher.source.rows).recorded.texts (kept_of c.resolve.new.self.watcher.source.rows) (g.F.Files.asked c.resolve.new.self.watcher.source.files)
+    c.refresh.ensures.files c.refresh.ensures.texts c.in_err-resolved.ensures.asks_one
+
+pub returns-in-Ok-clause-asks : goal.returns-in-Ok-clause-asks
+returns-in-Ok-clause-asks g c =
+    asks-told (λ f. g.F.Files.asked f) c.args.self.now.watcher.source.files c.refresh.new.self.source.files (g.F.Files.asked c.resolve.new.self.watcher.source.files) c.in_ok-resolved.resolved.fetched
+    c.in-Ok.line.asked c.refresh.ensures.files c.in_ok-resolved.ensures.asks c.in-Ok.ensures.asked
+
+pub returns-in-Err-clause-asks_one : goal.returns-in-Err-clause-asks_one
+returns-in-Err-clause-asks_one g c =
+    asks-fetched (kept_of c.args.self.now.watcher.source.rows).recorded.texts (kept_of c.refresh.new.self.source.rows) (kept_of c.resolve.new.self.watcher.source.rows) c.args.loc.now
+    c.in_ok-resolved.resolved.fetched (g.F.Files.asked c.args.self.now.watcher.source.files) (g.F.Files.asked c.resolve.new.self.watcher.source.files) c.refresh.ensures.texts c.refresh.ensures.sound
+    c.in_ok-resolved.ensures.asked
+    (asks-from (λ f. g.F.Files.asked f) c.args.self.now.watcher.source.files c.refresh.new.self.source.files (g.F.Files.asked c.resolve.new.self.watcher.source.files)
+    c.in_ok-resolved.resolved.fetched c.refresh.ensures.files c.in_ok-resolved.ensures.asks)

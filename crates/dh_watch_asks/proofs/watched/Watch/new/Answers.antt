@@ -1,4 +1,3 @@
-use Rattle.std.specs.Prelude.{refl}
 use Rattle.std.proofs.Common.{ap, sym, subst}
 use Rattle.dh_watch.specs.Watchers.{IsWatched}
 use Rattle.dh_watch_laws.specs.Editing.{locs_of}
