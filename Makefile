@@ -2,7 +2,7 @@
 # make run        the same, and runs it on an example
 # make install    the program, its manual page and completions; PREFIX, DESTDIR; make uninstall removes them
 # make check      the gate: every proof, test, refused edit, program and script that did not pass on this machine before (docs/GATE.md);
-#                 MINUTES=N begins no refused edits N minutes after it began
+#                 MINUTES=N begins no refused edits N minutes after it began, and ends those that are being tried 10 minutes later
 # make speed      times the program on named inputs and graphs, and counts its instructions where valgrind is there; OTHER=PROGRAM: beside another
 # make check-all  the kit's own gate, which uses nothing of the store that make check keeps; to be passed before a release
 

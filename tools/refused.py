@@ -40,8 +40,9 @@ DRIVER = r'''//! The program `dhall` behind as many allocations as its first wor
 
 use dh_desks::{Folder, Folders, make_desks};
 use dh_ports::{OpenGate, Silent};
-use dh_program::{Source, Target, exit_code, lack_memory, run_program};
+use dh_streams::{Source, Target};
 use dh_syntax::Piece;
+use dh_top::{exit_code, lack_memory, run_program};
 use std::alloc::{AllocError, Global};
 use std::env;
 use std::io;
@@ -180,6 +181,8 @@ def table():
         Row("decode", ["decode"], RECORD_FORM, written(RECORD + "\n")),
         Row("to-json", ["to-json"], RECORD, written('{"a":1,"b":[true]}\n')),
         Row("steps", ["steps", "root"], "(\\(x : Natural) -> [ x, x ]) 1", written("[ 1, 1 ]\nnormal\n")),
+        Row("explain", ["explain", "14"], "", None),
+        Row("gen", ["gen", "4"], "", written("imports 5\nasked 5\nsha256:d12343667c608e212d9ddaefc76eb84cdb634b6be1e87011466df113a59e0b95\n")),
         Row("resolve imports", ["resolve"], GRAPH, written("[ 4, 6 ]\n")),
         Row("type imports", ["type"], GRAPH, written("List Natural\n")),
         Row("hash imports", ["hash"], GRAPH, written(digest(naturals(4, 6)) + "\n")),

@@ -3,14 +3,17 @@
 
 For each graph and each file that is edited it prints how many files stand on that file, the time of the first ask with what it needs
 (the run on the script up to there, less that on the script without the ask), the time of one edit with the ask after it (the rest of
-the run on a script with many of them, by their number), and how many times as fast that is. Then it prints the time of a thousand edits
-before one ask, and the memory after ten and after ten thousand edits and asks of one file. The least of a few runs counts, since other
-work on the machine only adds. Plain Python 3, a minute or two.
+the run on a script with many of them, by their number), and how many times as fast that is. With --dhall it also prints the time of a
+fresh run of that program's `hash`, by one worker, over the same contents as files in a folder, and how many times as fast as that an
+edit and an ask are. Then it prints the time of a thousand edits
+before one ask, and the memory after ten and after ten thousand edits and asks of one file, beside that of a script as long without
+asks. The least of a few runs counts, since other work on the machine only adds. Plain Python 3, a minute or two.
 """
 import argparse
 import os
 import random
 import sys
+import tempfile
 
 import speed
 
@@ -28,12 +31,12 @@ def fan(n):
 
 
 def tangle(n):
-    """Each file imports up to three later ones, and the first one those that no file imports; the same graph each time."""
+    """Each file imports up to three later ones, and the first one lists those that no file imports; the same graph each time."""
     source = random.Random(n)
     later = [[]] + [source.sample(range(i + 1, n), min(source.randint(0, 3), n - 1 - i)) for i in range(1, n)]
     imported = {j for js in later for j in js}
-    later[0] = [i for i in range(1, n) if i not in imported]
-    return {f"./f{i}": " + ".join([str(i), *(f"./f{j}" for j in js)]) for i, js in enumerate(later)}
+    listed = ",".join(f"./f{i}" for i in range(1, n) if i not in imported)
+    return {"./f0": f"[{listed}]", **{f"./f{i}": " + ".join([str(i), *(f"./f{j}" for j in later[i])]) for i in range(1, n)}}
 
 
 def standing_on(files, name):
@@ -69,20 +72,36 @@ def ran(given, script):
     return best
 
 
+def fresh_run(given, files):
+    """The time of a run of `hash` over these files in a folder, which is to answer a digest."""
+    with tempfile.TemporaryDirectory() as folder:
+        for at, text in files.items():
+            with open(os.path.join(folder, at), "w") as file:
+                file.write(text)
+        best = speed.best(given.dhall, ["hash", "--workers", "1"], b"./f0", given.tries, folder)
+    if best[2] != 0:
+        sys.exit(f"a fresh run ended with {best[2]}: {best[4].decode()}")
+    return best[0]
+
+
 def show_edits(given):
-    speed.head(given, ["Graph", "Files", "Edited", "Stand on it", "First ask", "An edit and an ask", "Times as fast"])
+    more = ["Fresh run", "Times as fast"] if given.dhall else []
+    speed.head(given, ["Graph", "Files", "Edited", "Stand on it", "First ask", "An edit and an ask", "Times as fast", *more])
     for make, name in [(chain, "chain"), (fan, "fan"), (tangle, "random graph")]:
         files = make(given.files)
         start = sets(files)
         without = ran(given, start)[0]
         first = ran(given, start + "ask ./f0\n")[0]
+        anew = fresh_run(given, files) if given.dhall else 0
         leaves = [at for at, text in files.items() if "./" not in text]
         source = random.Random(given.files)
         for at in ["./f0", "./f1", leaves[-1]] if make is chain else sorted(source.sample(leaves, 3), key=lambda at: standing_on(files, at)):
             more = "".join(put(at, f"{files[at]} + {k}") + "ask ./f0\n" for k in range(given.edits))
             each = (ran(given, start + "ask ./f0\n" + more)[0] - first) / given.edits
             fresh = first - without
-            print(f"| {name} | {given.files} | {at} | {standing_on(files, at)} | {fresh:.3f} | {each:.5f} | {fresh / each:.0f} |", flush=True)
+            cells = [name, given.files, at, standing_on(files, at), f"{fresh:.3f}", f"{each:.5f}", f"{fresh / each:.0f}"]
+            cells += [f"{anew:.3f}", f"{anew / each:.0f}"] if given.dhall else []
+            print("| " + " | ".join(str(cell) for cell in cells) + " |", flush=True)
 
 
 def show_many(given):
@@ -93,14 +112,17 @@ def show_many(given):
     first = ran(given, start)[0]
     one, many = (ran(given, start + edit * n + "ask ./f0\n")[0] - first for n in (1, 1000))
     print(f"\none edit and an ask: {one:.4f} s; a thousand edits and an ask: {many:.4f} s")
-    few, lots = (ran(given, put("./a", "./b") + "".join(put("./b", str(k)) + "ask ./a\n" for k in range(n)))[1] for n in (10, 10_000))
-    print(f"memory after 10 edits and asks of one file: {few:.1f} MB; after 10,000: {lots:.1f} MB")
+    # A script takes memory by its orders, so the memory of edits and asks is that above the same script with other orders in their place.
+    for n in (10, 10_000):
+        asks, drops = (ran(given, put("./a", "./b") + "".join(put("./b", str(k)) + order for k in range(n)))[1] for order in ("ask ./a\n", "drop ./c\n"))
+        print(f"memory after {n} edits and asks of one file: {asks:.1f} MB; of {n} edits without an ask: {drops:.1f} MB")
 
 
 def main():
     root = os.path.dirname(os.path.dirname(os.path.abspath(__file__)))
     parser = argparse.ArgumentParser(description=__doc__.splitlines()[0])
     parser.add_argument("--program", default=os.path.join(root, "crates", "dhall_watch", "out", "dhall_watch"))
+    parser.add_argument("--dhall", help="the built `dhall`, for a column with a fresh run of it")
     parser.add_argument("--files", type=int, default=4000, help="how many files a graph has (4000)")
     parser.add_argument("--edits", type=int, default=20, help="how many edits are timed together (20)")
     parser.add_argument("--tries", type=int, default=3)
@@ -108,6 +130,8 @@ def main():
     given.program, given.compare = os.path.abspath(given.program), None
     if not os.access(given.program, os.X_OK):
         sys.exit(f"no program at {given.program}: build it first (make build)")
+    if given.dhall:
+        given.dhall = os.path.abspath(given.dhall)
     show_edits(given)
     show_many(given)
 

@@ -1,14 +1,20 @@
 """Random scripts of the watcher: files are set to random texts, among them texts that are no UTF-8, that have faults, that import in
 loops, that take the other side of `?` or that ask for a digest; some are dropped, and any is asked. The resolver of faults.py says over
-the contents as they then are what each ask is, and this module counts whose text it asked; some asks are compared with `dhall hash`
-over the same files. Lines that are no order are refused by their number before anything is asked, and so are texts that are no script."""
+the contents as they then are what each ask is, and this module counts whose text it asked; some asks are compared with
+`dhall hash` and `dhall batch` over the same files. Lines that are no order are refused by their number before anything is asked, and so
+are texts that are no script. With `--files` such texts stand in files, which are set, dropped and written again one by one while they
+are watched: each edit writes the lines that are others by it, with the number of files that are fetched for them, and nothing else."""
 
 import collections
 import os
 import random
+import subprocess
+import time
 
 from attacks import faults
-from attacks.runs import IMPORT, MOST_BYTES, OK, TEXT, USAGE, Ran, misused, new_folder, refused, write, written
+from attacks.runs import IMPORT, MOST_BYTES, NOT_READ, NOT_WRITTEN, OK, SECONDS, TEXT, TOO_LARGE, USAGE, WRITE
+from attacks.runs import Ran, misused, new_folder, refused, write, written
+from attacks.streams import closed
 
 # Locations that no script sets, and what they are: a fault that is told without asking a text, or none.
 UNASKED = {"missing": faults.OUTSIDE["missing"], "https://example.com/a": faults.OUTSIDE["https://example.com/a"]}
@@ -168,7 +174,7 @@ def first_other(ran, script):
 
 
 def check_by_hash(runs, source, name, size):
-    """Each line of a script is the one that `hash` writes over the same files."""
+    """Each line of a script is the one that `hash` and `batch` write over the same files."""
     script = Script(source, size, True)
     with new_folder() as folder:
         for n in range(size + 1):
@@ -182,6 +188,8 @@ def check_by_hash(runs, source, name, size):
             line, status = script.ask(asked)
             wanted = written(line + b"\n") if status == OK else refused(line, status)
             runs.check("scripts by hash", f"{asked} of {name}", ["hash"], asked.encode(), wanted, folder=folder)
+            of_batch = Ran(status, asked.encode() + b": " + line + b"\n", b"")
+            runs.check("scripts by batch", f"{asked} of {name}", ["batch", asked], b"", of_batch, folder=folder, is_formed=False)
         watch(runs, "scripts by hash", name, script.text(), script.wanted())
 
 
@@ -228,6 +236,31 @@ def check_refusals(runs, source):
     watch(runs, "words", "two words", b"ask ./a", misused(1), words=["a", "--help"])
 
 
+def check_streams(runs):
+    """Scripts whose standard streams are closed, full, endless or cannot be read."""
+    text, good = b"set ./a 31\nask ./a\n", written(digest_line(1, 1))
+
+    def check(name, given, wanted, **streams):
+        runs.expect(name, runs.run("streams", f"script, {name}", [], given, program=runs.watcher, is_formed=False, **streams), wanted)
+
+    check("stdout closed", text, NOT_WRITTEN, before=closed(1))
+    check("stderr closed", text, good, before=closed(2))
+    check("both closed", text, Ran(WRITE, b"", b""), before=closed(1, 2))
+    check("stdin closed", None, NOT_READ, before=closed(0))
+    check("stderr closed, refused", b"ask", Ran(WRITE, b"", b""), before=closed(2))
+    with open("/dev/full", "wb") as full:
+        check("stdout full", text, Ran(WRITE, None, NOT_WRITTEN.err), stdout=full)
+        check("stderr full", text, Ran(OK, good.out, None), stderr=full)
+        check("stderr full, refused", b"ask", Ran(WRITE, b"", None), stderr=full)
+    for path, wanted in (("/dev/null", written(b"")), ("/dev/zero", TOO_LARGE), ("/dev/urandom", TOO_LARGE)):
+        with open(path, "rb") as given:
+            check(f"stdin {path}", None, wanted, stdin=given)
+    folder, writer = os.open("/", os.O_RDONLY), os.open("/dev/null", os.O_WRONLY)
+    for name, given in (("a folder", folder), ("what is only written", writer)):
+        check(f"stdin {name}", None, NOT_READ, stdin=given)
+        os.close(given)
+
+
 def check_many(runs):
     """As many keys as an ask may visit, and one more."""
     def script(n):
@@ -241,6 +274,152 @@ def check_many(runs):
     runs.notes.append(f"after an ask of 4097 keys: {ran and ran.out.splitlines()[-1][-20:]}")
 
 
+class Watched:
+    """Files that are watched while they are edited, and what is written of them. The last location is `./marker`, whose text is
+    another each time that one waits for a look."""
+
+    def __init__(self, runs, folder, names):
+        self.folder, self.looks, self.seconds = folder, 0, SECONDS * runs.slowness
+        self.mark()
+        self.path = os.path.join(folder, "lines")
+        # (it is read by another file: a seek in this one would move where the program writes)
+        self.out = open(self.path, "ab")
+        self.process = subprocess.Popen([runs.watcher, "--files", *names, "./marker"], stdin=subprocess.PIPE, stdout=self.out, stderr=subprocess.PIPE,
+                                        cwd=folder, env={})
+
+    def put(self, name, data):
+        """Sets a file at once: no look finds a part of it."""
+        os.replace(write(self.folder, "new", data), os.path.join(self.folder, name))
+
+    def drop(self, name):
+        if os.path.exists(os.path.join(self.folder, name)):
+            os.remove(os.path.join(self.folder, name))
+
+    def mark(self):
+        self.looks += 1
+        self.put("./marker", str(self.looks))
+
+    def lines(self):
+        with open(self.path, "rb") as file:
+            return file.read().splitlines(keepends=True)
+
+    def is_seen(self):
+        """Waits for the line of the marker as it now is."""
+        end = time.monotonic() + self.seconds
+        while sum(line.startswith(b"./marker: ") for line in self.lines()) < self.looks:
+            if time.monotonic() > end or self.process.poll() is not None:
+                return False
+            time.sleep(0.02)
+        return True
+
+    def is_looked_at(self):
+        """Waits until a whole look was made: one that begins after the marker of another was seen ends with the next."""
+        for _ in range(2):
+            self.mark()
+            if not self.is_seen():
+                return False
+        return True
+
+    def ended(self):
+        """Ends standard input, and answers what was written but for the marker, and what stands on standard error."""
+        try:
+            _, err = self.process.communicate(timeout=self.seconds)
+        except subprocess.TimeoutExpired:
+            self.process.kill()
+            _, err = self.process.communicate()
+        return Ran(self.process.returncode, b"".join(line for line in self.lines() if not line.startswith(b"./marker: ")), err)
+
+
+class Showing(Script):
+    """What is to be written of files that are watched."""
+
+    def __init__(self, source, size, asked):
+        super().__init__(source, size, True)
+        self.asked, self.told = asked, {}
+
+    def show(self):
+        """Each location is asked; the lines are written that are others."""
+        self.status = OK
+        for name in self.asked:
+            shown = len(self.out)
+            line, _ = self.ask(name)
+            if self.told.get(name) == line:
+                del self.out[shown:]
+            self.told[name] = line
+
+
+def edit(source, script, watched):
+    """One file is set, dropped, or written again as it was."""
+    n = source.randrange(len(script.names))
+    name = script.names[n]
+    roll = source.random()
+    if roll < 0.6:
+        before = script.contents.get(name)
+        kept = set(script.kept)
+        script.set(n)
+        if before is not None and before[0] == script.contents[name][0]:
+            script.kept = kept
+        watched.put(name, script.contents[name][0])
+    elif roll < 0.8 and name in script.contents:
+        script.drop(name)
+        watched.drop(name)
+    elif name in script.contents:
+        watched.put(name, script.contents[name][0])
+
+
+def check_files(runs, source, name, size):
+    """Files are edited one by one while they are watched."""
+    with new_folder() as folder:
+        asked = source.sample([f"./f{n}" for n in range(size)], min(size, source.randint(1, 3)))
+        script = Showing(source, size, asked)
+        for n in range(size + 1):
+            if source.random() < 0.9:
+                script.set(n)
+                write(folder, script.names[n], script.contents[script.names[n]][0])
+        script.show()
+        watched = Watched(runs, folder, asked)
+        is_seen = watched.is_seen()
+        for _ in range(runs.few(25, 8)):
+            if not is_seen:
+                runs.report(name, "a look was not made")
+                break
+            edit(source, script, watched)
+            script.show()
+            is_seen = watched.is_looked_at()
+        ran = watched.ended()
+        runs.count("files that are watched", name, ran.status, 0)
+        if ran != script.wanted():
+            runs.report(name, f"was {first_other(ran, script)}")
+    runs.ends += script.counts
+
+
+def check_file_rows(runs):
+    """Words that name no location, files that are none, and outputs that are full."""
+    def check(name, words, wanted, **given):
+        runs.expect(name, runs.run("files", name, ["--files", *words], program=runs.watcher, is_formed=False, **given), wanted)
+
+    with new_folder() as folder:
+        write(folder, "one", b"1")
+        write(folder, "large", b" " * (MOST_BYTES + 1))
+        write(folder, "folder/two", b"./one")
+        os.symlink("one", os.path.join(folder, "link"))
+        one = line_of(1)[0]
+        check("no word", [], misused(2), folder=folder)
+        for n, word in enumerate([b"1", b"missing", b"./one as Text", b"./one ? ./one", b"", b"./", b"./one ./one", b"https://example.com/a sha256:" + b"0" * 64]):
+            check(f"{word!r} as word", ["./one"] * n + [word], misused(n + 2), folder=folder)
+        check("a word that is no UTF-8", [b"./\xff"], misused(1), folder=folder)
+        check("one file", ["./one"], written(b"./one: %s (asked 1)\n" % one), folder=folder)
+        check("one file by three names", ["./one", "./folder/../one", "./\"one\""], written(b"./one: %s (asked 1)\n" % one + b"./one: %s (asked 0)\n" % one * 2), folder=folder)
+        check("a link", ["./link"], written(b"./link: %s (asked 1)\n" % one), folder=folder)
+        check("a variable", ["env:A"], written(b"env:A: %s (asked 1)\n" % one), folder=folder, env={"A": "1"})
+        check("a file too large", ["./large"], Ran(TEXT, b"./large: in ./large: larger than 1048576 bytes (asked 1)\n", b""), folder=folder)
+        check("a folder", ["./one", "./folder"], Ran(IMPORT, b"./one: %s (asked 1)\n./folder: in ./folder: absent (asked 1)\n" % one, b""), folder=folder)
+        check("a file that imports none", ["./folder/two"], Ran(IMPORT, b"./folder/two: in ./folder/one: absent (asked 2)\n", b""), folder=folder)
+        with open("/dev/full", "wb") as full:
+            check("a full output", ["./one"], Ran(WRITE, None, b"write failed\n"), folder=folder, stdout=full)
+        check("a closed output", ["./one"], Ran(WRITE, b"", b"write failed\n"), folder=folder, before=lambda: os.close(1), stdin=subprocess.DEVNULL)
+
+
 def attack(runs):
     runs.watcher = os.path.join(os.path.dirname(runs.program), "dhall_watch")
     if not os.access(runs.watcher, os.X_OK):
@@ -250,9 +429,13 @@ def attack(runs):
     source = random.Random(runs.seed)
     check_rows(runs)
     check_refusals(runs, source)
+    check_streams(runs)
     check_many(runs)
     for n in range(runs.few(400, 40)):
         check_script(runs, source, f"script {n}", source.choice([1, 2, 3, 5, 8, 13, 40]))
     for n in range(runs.few(25, 4)):
         check_by_hash(runs, source, f"script {n} by hash", source.choice([2, 5, 13, 40]))
+    check_file_rows(runs)
+    for n in range(runs.few(20, 3)):
+        check_files(runs, source, f"files {n}", source.choice([1, 2, 3, 5, 8, 13]))
     runs.notes.append("asks of random scripts: " + ", ".join(f"{count} {kind}" for kind, count in sorted(runs.ends.items())))

@@ -1,5 +1,5 @@
 #!/usr/bin/env python3
-# needs: README.md CONTRIBUTING.md CHANGELOG.md docs crates.txt tools/commands.py dhall
+# needs: README.md CONTRIBUTING.md CHANGELOG.md docs completions crates.txt tools dhall
 """The documents say what is: their command lines print what the pages say, their links lead to files, and the map of the crates has
 each crate of crates.txt under its heading.
 
@@ -63,6 +63,12 @@ class Links(unittest.TestCase):
                 at = f"{ROOT}/crates/{crate}/{path}"
                 found = [it for it in (at, f"{at}.antt", f"{at}.rt") if os.path.exists(it)]
                 self.assertTrue(found, f"{page} names {crate}/{path}, which is not there")
+
+    def test_files_that_pages_name_are_there(self):
+        for page in PAGES:
+            for path in re.findall(r"`((?:completions|crates|docs|tools)/[\w./-]+)`", read(page)):
+                is_built = "/out/" in path
+                self.assertTrue(is_built or os.path.exists(f"{ROOT}/{path}"), f"{page} names {path}, which is not there")
 
 
 def groups_of_crates():

@@ -311,6 +311,21 @@ class Stub(Repository):
         ran = self.gate("--lanes", "1")
         self.assertEqual(re.findall(r"\] (\w+ edits): ", ran.stdout), ["app edits", "mid edits"], ran.stdout)
 
+    def test_edits_that_take_too_long(self):
+        self.write("crates/mid/must-fail/slow.edit", "file: src/lib.rt\nold: low::echo\nnew: SLOW\n")
+        self.change("low/src/lib.rt", "// The bottom", "// At the bottom")
+        ran = self.gate("--minutes", "0.2", "--only", "mid", GATE_LATE="0.01")
+        self.assertEqual(ran.returncode, 0, ran.stdout)
+        self.assertIn("mid edits: ended for want of time", ran.stdout)
+        self.assertIn("first the next time: mid/slow.edit\n", ran.stdout)
+        # (the two that were refused by then count)
+        self.assertTrue(ran.stdout.endswith("\n3 passed, 0 failed, 1 skipped\n"), ran.stdout)
+        # and that one alone is left
+        os.remove(f"{self.repo}/crates/mid/must-fail/slow.edit")
+        ran = self.gate("--only", "mid")
+        self.assertTrue(ran.stdout.endswith("\n3 passed, 0 failed\n"), ran.stdout)
+        self.assertEqual(self.done(ran), set())
+
     def test_empty_file_of_a_run(self):
         self.write("crates/app/args", "")
         ran = self.gate()

@@ -41,8 +41,10 @@ if verb == "must-fail":
     note(f"{name} has {sorted(os.listdir(f'crates/{name}/out'))}")
     for it in sorted(os.listdir(f"crates/{name}/must-fail")):
         with open(f"crates/{name}/must-fail/{it}") as file:
-            is_refused = "Bottom" not in file.read()
-        print(f"rt: must-fail {name}/{it}: " + ("refused, as it must be: src/lib.rt:1:1: error" if is_refused else "NOT REFUSED: the crate is still proved with this edit"))
+            edit = file.read()
+        time.sleep(600 * ("SLOW" in edit))
+        is_refused = "Bottom" not in edit
+        print(f"rt: must-fail {name}/{it}: " + ("refused, as it must be: src/lib.rt:1:1: error" if is_refused else "NOT REFUSED: the crate is still proved with this edit"), flush=True)
         status |= not is_refused
     sys.exit(status)
 held = os.open(".", os.O_RDONLY)
