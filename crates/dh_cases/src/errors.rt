@@ -82,7 +82,7 @@ pub struct CaseError {
     pub fault: Fault,
 }
 
-/// The same, where a fault is that of a line.
+/// The answer, or its fault with the number of the line that has it.
 pub(crate) fn at_line<T>(line: usize, answer: Result<T, Fault>) -> Result<T, CaseError> {
     match answer {
         Ok(value) => Ok(value),

@@ -13,8 +13,8 @@ ghost use Rattle.dh_infer.specs.Inside.Sharing.{AreShared, IsShareOf};
 use crate::forms::{Form, form_of};
 use dh_store::{Code, CodeId, CodeKid, Codes};
 use dh_syntax::{Alt, Label, Op};
-use dh_terms::is_same_op;
-use dh_types::{Memo, is_named, shown};
+use dh_terms::{is_same_label, is_same_op};
+use dh_types::{Memo, shown};
 use std::alloc::{AllocError, Global};
 
 /// The number of the first code like it, for each code so far; and for each key the last code that had it and is like no older one.
@@ -26,8 +26,47 @@ pub(crate) struct Sharing {
 
 // ---- keys: codes that are alike have the same one, and few others have it
 
+/// The prime of the 32-bit FNV hash (Fowler, Noll and Vo).
+const FNV_PRIME: u32 = 16_777_619;
+
+/// What comes behind a text: no byte is so large.
+const TEXT_END: u32 = 256;
+
+/// What a key begins with, by what it is of: different kinds of codes so seldom have the same key.
+const OF_BUILTIN: u32 = 1;
+
+const OF_LARGE_NUMBER: u32 = 2;
+
+const OF_PI: u32 = 3;
+
+const OF_APPLICATION: u32 = 4;
+
+const OF_SOME: u32 = 5;
+
+const OF_LIST: u32 = 6;
+
+const OF_LAMBDA: u32 = 7;
+
+const OF_RECORD_TYPE: u32 = 8;
+
+const OF_RECORD: u32 = 9;
+
+const OF_FIELD: u32 = 10;
+
+const OF_LONG_TEXT: u32 = 11;
+
+const OF_OTHERS: u32 = 12;
+
+const OF_PARTS: u32 = 13;
+
+const OF_BOUND: u32 = 14;
+
+const OF_FREE: u32 = 15;
+
+const OF_UNION: u32 = 19;
+
 fn mixed(key: u32, n: u32) -> u32 {
-    key.wrapping_mul(16_777_619).wrapping_add(n)
+    key.wrapping_mul(FNV_PRIME).wrapping_add(n)
 }
 
 fn text_key(key: u32, text: &str) -> u32 {
@@ -35,7 +74,7 @@ fn text_key(key: u32, text: &str) -> u32 {
     for byte in text.as_bytes() {
         key = mixed(key, u32::from(*byte));
     }
-    mixed(key, 256)
+    mixed(key, TEXT_END)
 }
 
 fn labels_key(key: u32, labels: &[Label]) -> u32 {
@@ -47,7 +86,7 @@ fn labels_key(key: u32, labels: &[Label]) -> u32 {
 }
 
 fn alternatives_key(alternatives: &[Alt]) -> u32 {
-    let mut key = 19;
+    let mut key = OF_UNION;
     for alternative in alternatives {
         key = text_key(key, alternative.label.as_str());
     }
@@ -56,25 +95,25 @@ fn alternatives_key(alternatives: &[Alt]) -> u32 {
 
 fn operator_key(op: &Op) -> u32 {
     match op {
-        Op::Builtin(builtin) => text_key(1, builtin.name()),
+        Op::Builtin(builtin) => text_key(OF_BUILTIN, builtin.name()),
         Op::Bool(value) => u32::from(*value),
-        Op::Nat(n) => u32::try_from(*n).unwrap_or(2),
-        Op::Pi => 3,
-        Op::App => 4,
-        Op::Some => 5,
-        Op::List => 6,
-        Op::Lam => 7,
-        Op::RecordType(labels) => labels_key(8, labels.as_slice()),
-        Op::Record(labels) => labels_key(9, labels.as_slice()),
+        Op::Nat(n) => u32::try_from(*n).unwrap_or(OF_LARGE_NUMBER),
+        Op::Pi => OF_PI,
+        Op::App => OF_APPLICATION,
+        Op::Some => OF_SOME,
+        Op::List => OF_LIST,
+        Op::Lam => OF_LAMBDA,
+        Op::RecordType(labels) => labels_key(OF_RECORD_TYPE, labels.as_slice()),
+        Op::Record(labels) => labels_key(OF_RECORD, labels.as_slice()),
         Op::Union(alternatives) => alternatives_key(alternatives.as_slice()),
-        Op::Field(label) => text_key(10, label.as_str()),
-        Op::Text(pieces) => u32::try_from(pieces.as_slice().len()).unwrap_or(11),
-        _ => 12,
+        Op::Field(label) => text_key(OF_FIELD, label.as_str()),
+        Op::Text(pieces) => u32::try_from(pieces.as_slice().len()).unwrap_or(OF_LONG_TEXT),
+        _ => OF_OTHERS,
     }
 }
 
 fn kids_key(firsts: &[CodeId], kids: &[CodeKid]) -> u32 {
-    let mut key = 13;
+    let mut key = OF_PARTS;
     for kid in kids {
         if let Some(first) = firsts.get(kid.code as usize) {
             key = mixed(key, *first);
@@ -85,8 +124,8 @@ fn kids_key(firsts: &[CodeId], kids: &[CodeKid]) -> u32 {
 
 fn key_of(firsts: &[CodeId], code: &Code) -> (u32, u32) {
     match code {
-        Code::Bound(index) => (14, *index),
-        Code::Free(name, index) => (text_key(15, name.as_str()), *index),
+        Code::Bound(index) => (OF_BOUND, *index),
+        Code::Free(name, index) => (text_key(OF_FREE, name.as_str()), *index),
         Code::Node(op, kids) => (operator_key(op), kids_key(firsts, kids.as_slice())),
     }
 }
@@ -108,7 +147,7 @@ fn are_named(binder: &Option<Label>, other: &Option<Label>) -> bool
     ensures { result ≡ true → binder.now ≡ other.now }
 {
     match (binder, other) {
-        (Some(x), Some(y)) => is_named(x, y),
+        (Some(x), Some(y)) => is_same_label(x, y),
         (None, None) => true,
         _ => false,
     }

@@ -22,7 +22,7 @@ pub fn alpha_of_shift_up()
     ensures { AlphaOfShiftUp }
 {}
 
-/// The same for shifting down, where the variable that would be lost is not free.
+/// The α-normal form of what was shifted down is the α-normal form, shifted down, where the variable that would be lost is not free.
 pub fn alpha_of_shift_down()
     ensures { AlphaOfShiftDown }
 {}

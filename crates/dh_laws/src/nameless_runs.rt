@@ -7,7 +7,7 @@ pub fn runs_of_nameless()
     ensures without_names { BareRuns }
 {}
 
-/// So it does without an end by nesting.
+/// The run of a nameless form that does not end by nesting gives the nameless form of what that run of the expression gives.
 pub fn endless_runs_of_nameless()
     ensures with_names { CoreEndlessRuns }
     ensures without_names { BareEndlessRuns }

@@ -11,7 +11,7 @@ pub fn more_units()
     ensures without_names { MoreUnits Bare }
 {}
 
-/// So a greater purse changes no answer of the plain normaliser but that the units were too few.
+/// A greater purse changes no answer of the plain normaliser but that the units were too few.
 pub fn more_units_plain()
     ensures { MoreUnitsPlain Term }
 {}

@@ -9,13 +9,14 @@ pub fn runs_of_same()
     ensures plain { SamePlainAnswers }
 {}
 
-/// So have they the same normal form but for the names of binders, and are equivalent where they have one.
+/// Expressions that differ only in the names of their binders have the same normal form but for such names, and are equivalent where
+/// they have one.
 pub fn normal_forms_of_same()
     ensures normal_form { SameNormalForms }
     ensures equivalent { SameIsEquivalent }
 {}
 
-/// So have they the same costs.
+/// Expressions that differ only in the names of their binders have the same costs.
 pub fn costs_of_same()
     ensures whole { SameWholeCost }
     ensures plain { SameCost }

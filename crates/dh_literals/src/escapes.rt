@@ -54,7 +54,7 @@ pub fn read_escape(text: &str) -> Option<(char, usize)>
     }
 }
 
-// The same where `\u` stands before the text.
+// The character that an escape by number means, of which this text follows `\u`, and how many bytes that takes.
 fn read_unicode_escape(text: &str) -> Option<(char, usize)>
     ensures { IsRead (unicode_escape text.now) 2 text.now result }
 {

@@ -23,7 +23,7 @@ pub fn push_escaped(text: &mut String, piece: &Piece) -> Result<(), AllocError>
     push_escaped_str(text, piece.as_str())
 }
 
-/// The same, of a text that is borrowed.
+/// Writes a borrowed text as it is printed between double quotes.
 pub fn push_escaped_str(text: &mut String, plain: &str) -> Result<(), AllocError>
     ensures { OnOk result (string_bytes text.new ≡ string_bytes text.old ++ escape plain.now) }
 {

@@ -123,7 +123,7 @@ fn without_indentation(alloc: Global, piece: &str, width: usize) -> Result<Piece
     Ok(Piece::of(text))
 }
 
-// The same, but for the first line.
+// A piece whose lines but the first are without so many bytes at their start.
 fn without_later_indentation(alloc: Global, piece: &str, width: usize) -> Result<Piece, AllocError>
     requires { IsTrue (list_all (is_blank_before width) (drop 1 (lines_of piece.now))) }
     ensures { IfOk result

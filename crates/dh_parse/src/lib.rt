@@ -5,6 +5,14 @@
 //! The functions within do what the machine's functions do; the clauses of `parse` speak of the definition of spelling
 //! alone. `parse_imports` and `parse_spans` answer the same expression or fault, with the places of its imports or of all
 //! its nodes.
+//!
+//! ```text
+//! match parse(alloc, b"1 + 2") {
+//!     Ok(expression) => ..,                   // well formed, nests at most 500 deep
+//!     Err(ParseFault::Syntax(at)) => ..,      // no expression goes on at this offset
+//!     Err(fault) => ..,                       // `{fault}` writes its line
+//! }
+//! ```
 #![tactic(auto)]
 
 #[cfg(test)]

@@ -73,7 +73,7 @@ fn joined(
     Ok(path)
 }
 
-// The same for the path of a URL, where only the child's components are escaped and the query is dropped.
+// The URL of a relative import in a text from a URL: the child's components alone are escaped, and the query is dropped.
 fn joined_url(alloc: Global, url: &Url, up: bool, comps: &Comps) -> Result<Url, AllocError>
     ensures { IfOk result (λ u. spec.canon_url u ≡ spec.joined_url url.now (route up comps.now)) }
 {

@@ -14,6 +14,7 @@
 
 mod closing;
 mod frames;
+mod levels;
 mod operands;
 mod reader;
 mod stops;

@@ -3,7 +3,6 @@
 mod arguments;
 mod beginning;
 mod extending;
-mod levels;
 mod operators;
 
 pub use beginning::begin;

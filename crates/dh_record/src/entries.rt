@@ -68,15 +68,15 @@ impl Entry {
         &self.expr
     }
 
-    /// It is a good entry.
-    pub fn is_good(&self)
+    /// States that it is a good entry. Does nothing: a caller's proof uses it.
+    pub fn by_digest(&self)
         ensures { IsGoodEntry self.now.digest self.now.bytes self.now.expr }
     {
         let _bytes = &self.bytes;
     }
 
-    /// Its expression is a value.
-    pub fn is_value(&self)
+    /// States that its expression is a value. Does nothing: a caller's proof uses it.
+    pub fn by_value(&self)
         ensures { IsValue (term self.now.expr) }
     {
         let _expr = &self.expr;

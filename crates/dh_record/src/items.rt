@@ -127,15 +127,16 @@ impl Done {
         outcome
     }
 
-    /// The value of its outcome, where it has one, is a value.
-    pub fn has_value(&self)
+    /// States that the value of its outcome, where it has one, is a value. Does nothing: a caller's proof uses it.
+    pub fn by_value(&self)
         ensures { HasValue self.now.outcome }
     {
         let _outcome = &self.outcome;
     }
 
-    /// The outcome is that of the last step on the item, or a limit that is licensed for it.
-    pub fn is_last(&self)
+    /// States that the outcome is that of the last step on the item, or a limit that is licensed for it. Does nothing: a caller's proof
+    /// uses it.
+    pub fn by_last_step(&self)
         ensures { IsLast self.now.item self.now.outcome self.now.limited }
     {
         let _outcome = &self.outcome;

@@ -21,7 +21,7 @@ use Rattle.dh_demand.proofs.scans.Edge.TheSendSync as edge
 use Rattle.dh_demand.specs.contracts.scans.Scan as scan
 use Rattle.dh_ports.specs.declared.worlds.World as world
 use Rattle.dh_record.proofs.news.Noted.TheSendSync as noted
-use Rattle.dh_table.proofs.scratch.Scratch.TheSendSync as scratch
+use Rattle.dh_table.proofs.search.scratch.Scratch.TheSendSync as scratch
 use Rattle.dh_record.proofs.rows.index.Order.TheSendSync as order
 use Rattle.dh_table.proofs.steps.Flight.TheSendSync as flight
 use Rattle.dh_table.proofs.steps.Job.TheSendSync as job

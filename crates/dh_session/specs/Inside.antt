@@ -6,10 +6,10 @@ use Rattle.dh_record.specs.Brought.{brings_failure, news_of}
 use Rattle.dh_record.specs.declared.items.Item.{Item}
 use Rattle.dh_record.specs.declared.news.News.{News}
 use Rattle.dh_record.specs.declared.news.News.TheVariants as news
-use Rattle.dh_table.specs.declared.opening.OpenFault.{OpenFault}
-use Rattle.dh_table.specs.declared.opening.OpenFault.TheVariants as opens
-use Rattle.dh_table.specs.declared.works.Work.{Work}
-use Rattle.dh_table.specs.declared.works.Work.TheVariants as works
+use Rattle.dh_table.specs.declared.steps.opening.OpenFault.{OpenFault}
+use Rattle.dh_table.specs.declared.steps.opening.OpenFault.TheVariants as opens
+use Rattle.dh_table.specs.declared.answers.works.Work.{Work}
+use Rattle.dh_table.specs.declared.answers.works.Work.TheVariants as works
 use Rattle.dh_shared.specs.Held.{Held}
 use Rattle.dh_work.specs.Brings.{IsTextAt, IsLookOf}
 use Rattle.dh_session.specs.declared.answers.SessionFault.{SessionFault}

@@ -68,7 +68,7 @@ pub(crate) fn answer_of<W: World>(
     ensures keeps { IfOk result (λ a. IsKeeping (state_of a.table) (root_end (state_of a.table)) (map pair_of a.keeps)) }
     ensures memory { IfErr result (λ f. f ≡ SessionFault.Memory) }
 {
-    table.is_replayed();
+    table.by_history();
     let ended = table.root(alloc)?;
     let keeps = table.keeps(alloc)?;
     Ok(Answered {

@@ -9,18 +9,18 @@ use Rattle.dh_imports.specs.Replay as replay
 use Rattle.dh_imports.specs.Replay.{kind_of, root_end}
 use Rattle.dh_syntax.proofs.Bridge.{term-one_to_one}
 use Rattle.dh_syntax.proofs.Numbers.{eq-itself}
-use Rattle.dh_table.specs.declared.claims.Claimed.{Claimed}
-use Rattle.dh_table.specs.declared.claims.Claimed.TheVariants as claimed
-use Rattle.dh_table.specs.declared.deliveries.Taken.{Taken}
-use Rattle.dh_table.specs.declared.deliveries.Taken.TheVariants as taken
+use Rattle.dh_table.specs.declared.steps.claims.Claimed.{Claimed}
+use Rattle.dh_table.specs.declared.steps.claims.Claimed.TheVariants as claimed
+use Rattle.dh_table.specs.declared.steps.deliveries.Taken.{Taken}
+use Rattle.dh_table.specs.declared.steps.deliveries.Taken.TheVariants as taken
 use Rattle.dh_record.specs.declared.news.News.{News}
 use Rattle.dh_record.specs.declared.news.News.TheVariants as news
 use Rattle.dh_record.specs.declared.kinds.Kind.{Kind}
 use Rattle.dh_record.specs.declared.kinds.Kind.TheVariants as kinds
 use Rattle.dh_table.specs.declared.steps.Step.{Step}
 use Rattle.dh_table.specs.declared.tables.Ticket.{Ticket}
-use Rattle.dh_table.specs.declared.works.Work.{Work}
-use Rattle.dh_table.specs.declared.works.Work.TheVariants as works
+use Rattle.dh_table.specs.declared.answers.works.Work.{Work}
+use Rattle.dh_table.specs.declared.answers.works.Work.TheVariants as works
 use Rattle.dh_table.specs.Calls.{Adds, HandsOut, Idles, IsOver, Claims, after_mark, MayMark, mark_steps, claim_steps, Releases, Takes, StaysDecided, failures, new_failures}
 use Rattle.dh_table.specs.Shown.{Shown}
 use Rattle.dh_table.specs.States.{kind_by, state_of}

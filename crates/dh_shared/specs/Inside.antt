@@ -2,10 +2,10 @@
 use Rattle.std.specs.Prelude.{◌≡◌, ℕ, ◌+◌, Bool, true, false, cond, count_by, IsSome}
 use Rattle.dh_imports.specs.Machine.{Task, InFlight}
 use Rattle.dh_imports.specs.Replay.{kind_of, root_end}
-use Rattle.dh_table.specs.declared.claims.Claimed.{Claimed}
-use Rattle.dh_table.specs.declared.claims.Claimed.TheVariants as claimed
-use Rattle.dh_table.specs.declared.deliveries.Taken.{Taken}
-use Rattle.dh_table.specs.declared.deliveries.Taken.TheVariants as taken
+use Rattle.dh_table.specs.declared.steps.claims.Claimed.{Claimed}
+use Rattle.dh_table.specs.declared.steps.claims.Claimed.TheVariants as claimed
+use Rattle.dh_table.specs.declared.steps.deliveries.Taken.{Taken}
+use Rattle.dh_table.specs.declared.steps.deliveries.Taken.TheVariants as taken
 use Rattle.dh_record.specs.declared.news.News.{News}
 use Rattle.dh_table.specs.declared.tables.Ticket.{Ticket}
 use Rattle.dh_table.specs.Calls.{StaysDecided, failures, new_failures}

@@ -3,14 +3,14 @@ use Rattle.std.specs.Prelude.{◌≡◌, ◌⊎◌, ℕ, Bool, cond, List, Optio
 use Rattle.dh_syntax.specs.declared.locations.Digest.{Digest}
 use Rattle.dh_syntax.specs.declared.locations.Loc.{Loc}
 use Rattle.dh_ports.specs.declared.worlds.Got.{Got}
-use Rattle.dh_table.specs.declared.deliveries.Taken.{Taken}
-use Rattle.dh_table.specs.declared.deliveries.Taken.TheVariants as taken
+use Rattle.dh_table.specs.declared.steps.deliveries.Taken.{Taken}
+use Rattle.dh_table.specs.declared.steps.deliveries.Taken.TheVariants as taken
 use Rattle.dh_record.specs.declared.news.News.{News}
 use Rattle.dh_record.specs.declared.news.News.TheVariants as news
 use Rattle.dh_record.specs.declared.kinds.Kind.TheVariants as kinds
 use Rattle.dh_table.specs.declared.tables.Ticket.{Ticket}
-use Rattle.dh_table.specs.declared.works.Work.{Work}
-use Rattle.dh_table.specs.declared.works.Work.TheVariants as works
+use Rattle.dh_table.specs.declared.answers.works.Work.{Work}
+use Rattle.dh_table.specs.declared.answers.works.Work.TheVariants as works
 use Rattle.dh_record.specs.Brought.{BringsText, BringsLook, BringsOutcome}
 use Rattle.dh_table.specs.Calls.{new_failures}
 use Rattle.dh_table.specs.Works.{IsFitWork}

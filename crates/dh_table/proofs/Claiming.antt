@@ -5,7 +5,7 @@ use Rattle.std.proofs.lemmas.List.{length-append}
 use Rattle.dh_imports.specs.Machine as machine
 use Rattle.dh_imports.specs.Machine.{Task, State, IsOpen, effect}
 use Rattle.dh_imports.specs.Replay.{root_end}
-use Rattle.dh_table.specs.declared.claims.Claimed.TheVariants as claimed
+use Rattle.dh_table.specs.declared.steps.claims.Claimed.TheVariants as claimed
 use Rattle.dh_table.specs.declared.steps.Job.{Job}
 use Rattle.dh_record.specs.declared.kinds.Kind.{Kind}
 use Rattle.dh_table.specs.declared.steps.Step.{Step}

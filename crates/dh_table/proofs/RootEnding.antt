@@ -12,8 +12,8 @@ use Rattle.dh_imports.specs.Machine.{State, root_walk}
 use Rattle.dh_imports.specs.Replay.{RootEnd, too_many, has_too_many, root_end, end_of}
 use Rattle.dh_imports.specs.Resolver.{resolve}
 use Rattle.dh_imports.specs.Walk.{Walked, Ready, Fails, Turns, Needs}
-use Rattle.dh_table.specs.declared.roots.Ended.{Ended}
-use Rattle.dh_table.specs.declared.roots.Ended.TheVariants as ends
+use Rattle.dh_table.specs.declared.answers.roots.Ended.{Ended}
+use Rattle.dh_table.specs.declared.answers.roots.Ended.TheVariants as ends
 use Rattle.dh_record.specs.Due.{IsBlame}
 use Rattle.dh_table.specs.Kept.{IsKeeping}
 use Rattle.dh_table.specs.Roots.{IsEnd}

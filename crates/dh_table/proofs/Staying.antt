@@ -25,7 +25,7 @@ use Rattle.dh_import_laws.proofs.Facts.{Grows}
 use Rattle.dh_import_laws.proofs.Grow.{longer-itself}
 use Rattle.dh_import_laws.proofs.Plans.{wanted-undecided}
 use Rattle.dh_demand.specs.Results.{number_of}
-use Rattle.dh_table.specs.declared.explored.Explored.{Explored}
+use Rattle.dh_table.specs.declared.search.explored.Explored.{Explored}
 use Rattle.dh_record.specs.declared.rows.recorded.Entrant.{Entrant}
 use Rattle.dh_record.specs.Entering.{AreDistinct, AreMore, decided_at, keys_in}
 use Rattle.dh_table.specs.Inside.Piling.{IsPoured, number_at}

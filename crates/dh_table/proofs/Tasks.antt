@@ -17,7 +17,7 @@ use Rattle.dh_imports.specs.Records.{lookup}
 use Rattle.dh_syntax.proofs.Numbers.{eq-true}
 use Rattle.dh_syntax.proofs.SameTree.{locs_tell, digests_tell}
 use Rattle.dh_laws.proofs.KeyOrder.{bool-case, none-some, some-equal, key_eq-true, key_eq-itself}
-use Rattle.dh_table.specs.declared.flights.Name.{Name}
+use Rattle.dh_table.specs.declared.steps.flights.Name.{Name}
 use Rattle.dh_table.specs.declared.steps.Flight.{Flight}
 use Rattle.dh_table.specs.declared.steps.Job.{Job}
 use Rattle.dh_record.specs.declared.rows.recorded.Entrant.{Entrant}

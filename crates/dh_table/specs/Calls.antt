@@ -7,10 +7,10 @@ use Rattle.dh_imports.specs.Machine as machine
 use Rattle.dh_imports.specs.Machine.{Task, State, Event, IsOpen, InFlight, IsInTime, May, effect, opening}
 use Rattle.dh_imports.specs.Records as found
 use Rattle.dh_imports.specs.Replay.{kind_of, root_end}
-use Rattle.dh_table.specs.declared.claims.Claimed.{Claimed}
-use Rattle.dh_table.specs.declared.claims.Claimed.TheVariants as claimed
-use Rattle.dh_table.specs.declared.deliveries.Taken.{Taken}
-use Rattle.dh_table.specs.declared.deliveries.Taken.TheVariants as taken
+use Rattle.dh_table.specs.declared.steps.claims.Claimed.{Claimed}
+use Rattle.dh_table.specs.declared.steps.claims.Claimed.TheVariants as claimed
+use Rattle.dh_table.specs.declared.steps.deliveries.Taken.{Taken}
+use Rattle.dh_table.specs.declared.steps.deliveries.Taken.TheVariants as taken
 use Rattle.dh_record.specs.declared.news.News.{News}
 use Rattle.dh_table.specs.declared.steps.Step.{Step}
 use Rattle.dh_table.specs.declared.tables.Ticket.{Ticket}
@@ -36,6 +36,7 @@ pub record Released (old new : Shown) (serial : ℕ) : Type 0 where
   pub state_is : state_of new ≡ effect (machine.Release serial) (state_of old)
   pub adds : Adds old new (Step.Release serial ∷ [])
 
+-- a task is released where its serial is in flight, and otherwise nothing changes
 abbrev pub Releases : Bool → Shown → Shown → ℕ → Type 0
 Releases true old new serial = Released old new serial
 Releases false old new serial = ((t : Task) → ¬ InFlight (state_of old) serial t) × (new ≡ old)
@@ -57,6 +58,7 @@ abbrev pub MayMark : List Entrant → Option ℕ → State → Type 0
 MayMark keys None s = Unit {0}
 MayMark keys (Some n) s = (root_end s ≡ None) × May (machine.Cycled (key_named keys n)) s
 
+-- the step that marks a loop, if one is marked
 abbrev pub mark_steps : Option ℕ → List Step
 mark_steps None = []
 mark_steps (Some n) = Step.Cycled n ∷ []
@@ -88,6 +90,7 @@ ClaimAnswers worker s new (claimed.Task ticket) = HandsOut worker s new ticket
 ClaimAnswers worker s new claimed.Idle = Idles s new
 ClaimAnswers worker s new claimed.Over = IsOver s new
 
+-- the step of a claim that hands out a task, and none otherwise
 abbrev pub claim_steps : ℕ → Claimed → List Step
 claim_steps worker (claimed.Task ticket) = Step.Claim worker ticket.kind ticket.serial ∷ []
 claim_steps worker claimed.Idle = []
@@ -114,6 +117,7 @@ landing serial (machine.fetched l text) = machine.Fetched serial l text
 landing serial (machine.looked d look) = machine.Looked serial d look
 landing serial (machine.finished k i limit o) = machine.Finished serial k i limit o
 
+-- the step of the table's history by which news is recorded
 abbrev pub landing_step : ℕ → machine.News → Step
 landing_step serial (machine.fetched l text) = Step.Fetched serial
 landing_step serial (machine.looked d look) = Step.Looked serial

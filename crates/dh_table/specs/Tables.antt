@@ -12,7 +12,7 @@ use Rattle.dh_demand.specs.declared.scans.Scan.{Scan}
 use Rattle.dh_demand.specs.Results.{ask_of}
 use Rattle.dh_demand.specs.Scans.{Fits}
 use Rattle.dh_ports.specs.declared.worlds.Got.{Got}
-use Rattle.dh_table.specs.declared.scratch.Scratch.{Scratch}
+use Rattle.dh_table.specs.declared.search.scratch.Scratch.{Scratch}
 use Rattle.dh_table.specs.declared.steps.Flight.{Flight}
 use Rattle.dh_table.specs.declared.steps.Job.{Job}
 use Rattle.dh_table.specs.declared.steps.Step.{Step}
@@ -30,6 +30,7 @@ use Rattle.dh_table.specs.Shown.{Shown}
 use Rattle.dh_table.specs.States.{IsFrozenLook, IsReplayed, state_of}
 use Rattle.dh_record.specs.Rows.{rows_of, text_of}
 
+-- what contracts see of the fields of a table
 abbrev pub view_of : {W : _} → Inside W → Shown
 view_of t = record {
   root = t.root;
@@ -81,6 +82,7 @@ pub record AreFit (keys : List Entrant) (flights : List Flight) : Type 0 where
   pub values : All IsValued keys
   pub looks : All (λ (f : Flight). IsFrozenLook keys f.job) flights
 
+-- what is always true of a table, in a world that tells this of texts and of the cache
 pub record IsGood (told : Loc → Option Got) (shelved : Digest → Option (Option (List ℕ))) {W : _} (t : Inside W) : Type 0 where
   pub replays : IsReplayed (view_of t)
   pub flights_named : All (λ (f : Flight). f.job.key < length t.keys) t.flights.items

@@ -2,8 +2,8 @@
 use Rattle.std.specs.Prelude.{◌≡◌, ℕ}
 use Rattle.dh_imports.specs.Machine as machine
 use Rattle.dh_imports.specs.Machine.{State, InFlight, stage_of}
-use Rattle.dh_table.specs.declared.works.Work.{Work}
-use Rattle.dh_table.specs.declared.works.Work.TheVariants as works
+use Rattle.dh_table.specs.declared.answers.works.Work.{Work}
+use Rattle.dh_table.specs.declared.answers.works.Work.TheVariants as works
 use Rattle.dh_record.specs.Items.{stage_of_item}
 use Rattle.dh_record.specs.Values.{IsFit}
 

@@ -17,33 +17,12 @@
 //! ```
 #![tactic(auto)]
 
-mod claims;
-mod deliveries;
-mod explored;
-mod flights;
-mod keeps;
-mod leads;
-mod loops;
-mod opening;
-mod passing;
-mod piles;
-mod queries;
-mod readings;
-mod recording;
-mod replayed;
-mod roots;
-mod sameness;
-mod scratch;
-mod searches;
+mod answers;
+mod search;
 mod steps;
 mod tables;
-mod works;
 
-pub use claims::Claimed;
-pub use deliveries::Taken;
+pub use answers::{Ended, Work};
 pub use dh_record::{Body, Done, Entry, Item, Kind, News, Noted, Parsed, Seen};
-pub use opening::OpenFault;
-pub use roots::Ended;
-pub use steps::Step;
+pub use steps::{Claimed, OpenFault, Step, Taken};
 pub use tables::{Table, Ticket};
-pub use works::Work;

@@ -1,6 +1,20 @@
-//! Steps, as the history shows them.
+//! Steps, as the history shows them, and the calls that make them.
 
+mod claims;
+mod deliveries;
+mod flights;
+mod in_flight;
+mod opening;
+mod passing;
+mod recording;
+
+pub use claims::Claimed;
+pub use deliveries::Taken;
 use dh_record::Kind;
+pub(crate) use flights::{Name, flight_at};
+pub(crate) use in_flight::{flies, is_same_digest, job_of};
+pub use opening::OpenFault;
+pub(crate) use passing::is_open_value;
 
 /// A step of the table.
 #[derive(Clone, Copy, Debug, PartialEq, Eq)]

@@ -9,9 +9,8 @@ ghost use Rattle.dh_table.specs.States.{IsFrozenLook, state_of, task_of};
 ghost use Rattle.dh_record.specs.Rows.{rows_of, key_named};
 ghost use Rattle.dh_record.specs.Brought.{news_of};
 
-use crate::sameness::job_of;
-use crate::scratch::Scratch;
-use crate::steps::{Flight, Job, Step};
+use crate::search::Scratch;
+use crate::steps::{Flight, Job, Step, job_of};
 use dh_demand::{Next, Results, Scan, next};
 use dh_imports::Outcome;
 use dh_ports::World;

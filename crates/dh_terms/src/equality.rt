@@ -5,7 +5,7 @@ ghost use Rattle.dh_syntax.specs.Expressions.Numbers.{bytes_eq};
 ghost use Rattle.dh_syntax.specs.Expressions.SameTree.{list_eq, option_eq, alt_eq, url_eq, loc_eq, digest_eq, mode_eq, import_eq, builtin_eq, bin_eq, op_eq};
 ghost use Rattle.dh_syntax.specs.Imports.Keys.{key_eq};
 
-use crate::binders::is_named;
+use crate::binders::is_same_label;
 use dh_syntax::{Alt, BinOp, Builtin, Digest, Import, Key, Label, Loc, Mode, Op, Piece, Url};
 
 /// Whether the two pieces are equal.
@@ -23,7 +23,7 @@ fn are_same_labels(xs: &[Label], ys: &[Label]) -> bool
         return false;
     }
     for i in 0..xs.len() {
-        if !is_named(&xs[i], &ys[i]) {
+        if !is_same_label(&xs[i], &ys[i]) {
             return false;
         }
     }
@@ -49,7 +49,7 @@ fn are_same_pieces(ps: &[Piece], qs: &[Piece]) -> bool
 fn is_same_alt(a: &Alt, b: &Alt) -> bool
     ensures { result ≡ alt_eq a.now b.now }
 {
-    is_named(&a.label, &b.label) && a.typed == b.typed
+    is_same_label(&a.label, &b.label) && a.typed == b.typed
 }
 
 /// Whether the two lists of alternatives are equal.
@@ -177,7 +177,7 @@ pub fn is_same_op(o: &Op, p: &Op) -> bool
         (Op::Merge(b), Op::Merge(c)) => b == c,
         (Op::RecordType(x), Op::RecordType(y)) => are_same_labels(x.as_slice(), y.as_slice()),
         (Op::Record(x), Op::Record(y)) => are_same_labels(x.as_slice(), y.as_slice()),
-        (Op::Field(x), Op::Field(y)) => is_named(x, y),
+        (Op::Field(x), Op::Field(y)) => is_same_label(x, y),
         (Op::Project(x), Op::Project(y)) => are_same_labels(x.as_slice(), y.as_slice()),
         (Op::ProjectType, Op::ProjectType) => true,
         (Op::Union(x), Op::Union(y)) => are_same_alts(x.as_slice(), y.as_slice()),

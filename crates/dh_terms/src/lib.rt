@@ -25,6 +25,7 @@ mod substitution;
 mod weakening;
 
 pub use alpha_forms::alpha;
+pub use binders::is_same_label;
 pub use conditions::{fits_alpha, fits_shift, fits_subst};
 pub use cores::{Core, CoreKid, CoreKids};
 pub use equality::{is_same_key, is_same_loc, is_same_op};

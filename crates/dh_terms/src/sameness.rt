@@ -10,7 +10,7 @@ ghost use Rattle.dh_syntax.specs.Expressions.Numbers.{bytes_eq};
 ghost use Rattle.dh_syntax.specs.Expressions.SameTree.{option_eq, term_eq, row_eq};
 
 use crate::alpha_forms::alpha;
-use crate::binders::is_named;
+use crate::binders::is_same_label;
 use crate::equality::is_same_op;
 use dh_syntax::{Expr, Kid, Kids, Label};
 use std::alloc::{AllocError, Global};
@@ -32,7 +32,7 @@ pub fn is_same_binder(x: &Option<Label>, y: &Option<Label>) -> bool
     ensures { result ≡ option_eq bytes_eq x.now y.now }
 {
     match (x, y) {
-        (Some(x), Some(y)) => is_named(x, y),
+        (Some(x), Some(y)) => is_same_label(x, y),
         (None, None) => true,
         _ => false,
     }
@@ -44,7 +44,7 @@ pub fn is_same_expr(a: &Expr, b: &Expr) -> bool
     ensures { result ≡ term_eq (term a.now) (term b.now) }
 {
     match (a, b) {
-        (Expr::Var(x, i), Expr::Var(y, j)) => is_named(x, y) && i == j,
+        (Expr::Var(x, i), Expr::Var(y, j)) => is_same_label(x, y) && i == j,
         (Expr::Node(o, kids), Expr::Node(p, others)) => is_same_op(o, p)
             && are_same_kids(kids, others),
         (Expr::Var(_, _), Expr::Node(_, _)) => false,

@@ -21,7 +21,7 @@ use Rattle.dh_session.specs.Works.{AtLast}
 use Rattle.dh_syntax.specs.Expressions.Tree.{Term}
 use Rattle.dh_syntax.specs.Limits.{most_entry_bytes}
 use Rattle.dh_syntax.specs.Text.Spelling.{ParsesTo}
-use Rattle.dh_table.specs.declared.roots.Ended.{Ended}
+use Rattle.dh_table.specs.declared.answers.roots.Ended.{Ended}
 use Rattle.dh_table.specs.Shown.{Shown}
 use Rattle.dh_table.specs.States.{record_of, state_of}
 use Rattle.dh_top.specs.declared.files.FileReply.{FileReply}

@@ -25,8 +25,8 @@ use Rattle.dh_laws.proofs.KeyOrder.{none-some, some-equal}
 use Rattle.dh_import_laws.specs.Blames.{StandsIn}
 use Rattle.dh_import_laws.proofs.Blamed.{root_faults_stand}
 use Rattle.dh_import_laws.proofs.Laws.{outcomes_are_resolved}
-use Rattle.dh_table.specs.declared.roots.Ended.{Ended}
-use Rattle.dh_table.specs.declared.roots.Ended.TheVariants as ends
+use Rattle.dh_table.specs.declared.answers.roots.Ended.{Ended}
+use Rattle.dh_table.specs.declared.answers.roots.Ended.TheVariants as ends
 use Rattle.dh_table.specs.Roots.{IsEnd, IsFitEnd}
 use Rattle.dh_table.specs.Shown.{Shown}
 use Rattle.dh_table.specs.States.{IsReplayed, record_of, state_of}

@@ -46,7 +46,7 @@ use Rattle.dh_syntax.specs.FaultLines.{norm_fault_line}
 use Rattle.dh_syntax.specs.Expressions.SameTree.{digest_eq, loc_eq}
 use Rattle.dh_syntax.specs.Expressions.Tree.{Term}
 use Rattle.dh_syntax.specs.Text.Spelling.{ParsesTo}
-use Rattle.dh_table.specs.declared.roots.Ended.{Ended}
+use Rattle.dh_table.specs.declared.answers.roots.Ended.{Ended}
 use Rattle.dh_table.specs.Shown.{Shown}
 use Rattle.dh_table.specs.States.{IsReplayed, record_of, state_of}
 use Rattle.dh_top.specs.Generating.{GenSession, GeneratedDigests, IsCounted, IsGenerated, no_list, on_list, with_digest, with_fault}

@@ -38,7 +38,7 @@ use Rattle.dh_import_laws.specs.Blames.{StandsIn}
 use Rattle.dh_demand.specs.Scans.{text_key}
 use Rattle.dh_ports.specs.declared.mem_desks.CacheEntry.{CacheEntry}
 use Rattle.dh_ports.specs.declared.worlds.Got.{Got}
-use Rattle.dh_table.specs.declared.roots.Ended.{Ended}
+use Rattle.dh_table.specs.declared.answers.roots.Ended.{Ended}
 use Rattle.dh_record.specs.Brought.{AreTold, AreShelved}
 use Rattle.dh_table.specs.Kept.{IsKeeping}
 use Rattle.dh_record.specs.Kept.{pair_of}

@@ -24,7 +24,7 @@ use Rattle.dh_imports.specs.RootEnds.{EndsBy}
 use Rattle.dh_syntax.specs.Text.Spans.{Spans, SpellsAt}
 use Rattle.serde_json.specs.Data.{Data}
 use Rattle.serde_json.specs.Written.{compact_text}
-use Rattle.dh_table.specs.declared.roots.Ended.{Ended}
+use Rattle.dh_table.specs.declared.answers.roots.Ended.{Ended}
 use Rattle.dh_table.specs.Roots.{IsEnd, IsFitEnd}
 use Rattle.dh_table.specs.Shown.{Shown}
 use Rattle.dh_table.specs.States.{record_of, state_of}
@@ -33,6 +33,7 @@ use Rattle.dh_streams.specs.Streams.{Input}
 use Rattle.dh_top.specs.Runs.{DeskFailed, LacksMemory, Makes}
 use Rattle.dh_top.specs.declared.replies.Reply.{Reply}
 
+-- what a reply writes on each output, and its status
 abbrev pub written : Reply → Response
 written r = record { out = r.out.items; err = r.err.items; status = r.status }
 

@@ -44,7 +44,7 @@ fn ill_in_text<W: World>(
     requires stands { StandsIn (record_of table.now) (outcome_of (state_of table.now)) blame.now ill.now }
     ensures { IfOk result (λ w. FaultAnswer (record_of table.now) blame.now (written w)) }
 {
-    table.is_replayed();
+    table.by_history();
     let Some(key) = &blame.at else { unreachable!() };
     let Some(text) = table.bytes_at(&key.loc) else {
         unreachable!()

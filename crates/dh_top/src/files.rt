@@ -51,8 +51,8 @@ fn hash_root<T: Wait, W: World, D: Desk<W>, G: Gate>(
 {
     match resolve_one::<T, W, D, G>(rt, alloc, desk, visit, e, gate) {
         Ok(answered) => {
-            answered.table.tells();
-            answered.table.is_replayed();
+            answered.table.by_world();
+            answered.table.by_history();
             let reply = ended_reply(alloc, Verb::Hash, text, &answered.table, &answered.ended)?;
             Ok(FileReply {
                 reply: Some(reply),

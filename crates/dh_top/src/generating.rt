@@ -121,8 +121,8 @@ fn spelled_list<R: Threads + Wait + Sync, G: Gate + Sync>(
     let shelf = Shelf::new(alloc)?;
     match resolve_all::<R, Gen, GenDesk, G>(rt, alloc, &mut desks, workers, &shelf, e, gate) {
         Ok(answered) => {
-            answered.table.tells();
-            answered.table.is_replayed();
+            answered.table.by_world();
+            answered.table.by_history();
             list_reply(alloc, text, &answered.table, &answered.ended)
         }
         Err(SessionFault::TooMany) => why_reply(alloc, None, &Why::TooMany),

@@ -72,7 +72,7 @@ pub(crate) fn ended_reply<W: World>(
     requires closed { IsClosed table.now ended.now }
     ensures { IfOk result (λ w. ResolvedAnswer verb text.now (state_of table.now).root (record_of table.now) (written w)) }
 {
-    table.is_replayed();
+    table.by_history();
     match ended {
         Ended::Ready(e) => ready_reply(alloc, verb, text, table, e),
         Ended::Bad(blame) => blame_reply(alloc, table, blame),
@@ -144,8 +144,8 @@ fn spelled_reply<
     let shelf = Shelf::new(alloc)?;
     match resolve_all::<R, W, D, G>(rt, alloc, desks, workers, &shelf, e, gate) {
         Ok(answered) => {
-            answered.table.tells();
-            answered.table.is_replayed();
+            answered.table.by_world();
+            answered.table.by_history();
             answered_reply::<W, D>(alloc, command.verb, text, &answered, desks.as_mut_slice())
         }
         Err(SessionFault::TooMany) => why_reply(alloc, None, &Why::TooMany),

@@ -7,7 +7,7 @@ ghost use Rattle.dh_syntax.specs.Expressions.SameTree.{list_eq};
 ghost use Rattle.dh_typerows.specs.Entries.{optional_labels};
 
 use dh_syntax::{Alt, Label};
-use dh_types::is_named;
+use dh_terms::is_same_label;
 
 /// Whether these are the labels of the alternatives.
 pub(crate) fn are_labels(labels: &[Label], alts: &[Alt]) -> bool
@@ -17,7 +17,7 @@ pub(crate) fn are_labels(labels: &[Label], alts: &[Alt]) -> bool
         return false;
     }
     for i in 0..labels.len() {
-        if !is_named(&labels[i], &alts[i].label) {
+        if !is_same_label(&labels[i], &alts[i].label) {
             return false;
         }
     }

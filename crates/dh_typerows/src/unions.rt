@@ -20,7 +20,8 @@ use crate::drafts::Draft;
 use crate::fields::field_type;
 use dh_store::{CodeId, CodeKid, Codes};
 use dh_syntax::{Alt, Label};
-use dh_types::{Found, is_named, rules, union_type};
+use dh_terms::is_same_label;
+use dh_types::{Found, rules, union_type};
 use std::alloc::{AllocError, Global};
 
 /// The type of an alternative, if it has one, and the types that are left for those after it.
@@ -45,7 +46,7 @@ fn alternative_at(alts: &[Alt], types: &[CodeKid], x: &Label) -> Option<Option<C
     let mut rest = types;
     for alt in alts {
         let (own, others) = split(alt, rest);
-        if is_named(x, &alt.label) {
+        if is_same_label(x, &alt.label) {
             return Some(own);
         }
         rest = others;

@@ -149,8 +149,8 @@ fn seen<W: World>(
 fn copied(alloc: Global, entry: &Entry) -> Result<Entry, AllocError>
     ensures { IfOk result (λ e. e ≡ entry.now) }
 {
-    entry.is_good();
-    entry.is_value();
+    entry.by_digest();
+    entry.by_value();
     let bytes = entry.bytes().copied(alloc)?;
     let expr = copy(alloc, entry.expr())?;
     Ok(Entry::of(entry.digest(), bytes, expr))

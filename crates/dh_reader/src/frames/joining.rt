@@ -9,6 +9,7 @@ ghost use Rattle.dh_reader.specs.States.{held_of};
 ghost use Rattle.dh_reader.specs.declared.stops.Stop.TheVariants.{Memory};
 
 use crate::frames::{Frame, Frames, Open, Shut};
+use crate::levels::{ANY, APPLICATION, IMPORT, OPERATOR};
 use crate::stops::Stop;
 use crate::tops::{Held, Imported};
 use dh_making::Makes;
@@ -23,10 +24,10 @@ impl<M: Makes> Open<M> {
     {
         match self {
             Open::Left(_, operator) => operator.level(),
-            Open::Applied(_) | Open::Merged(_) | Open::Somed | Open::Mapped => 14,
-            Open::Update(_, _) | Open::Body(_, _, _) | Open::Target(_) => 0,
-            Open::Otherwise(_, _) | Open::Bound(_) | Open::Noted(_) => 0,
-            Open::Emptied(_) | Open::Asserted => 0,
+            Open::Applied(_) | Open::Merged(_) | Open::Somed | Open::Mapped => APPLICATION,
+            Open::Update(_, _) | Open::Body(_, _, _) | Open::Target(_) => ANY,
+            Open::Otherwise(_, _) | Open::Bound(_) | Open::Noted(_) => ANY,
+            Open::Emptied(_) | Open::Asserted => ANY,
         }
     }
 
@@ -36,10 +37,10 @@ impl<M: Makes> Open<M> {
     {
         match self {
             Open::Left(_, operator) => operator.level() + 1,
-            Open::Applied(_) | Open::Merged(_) | Open::Somed | Open::Mapped => 15,
-            Open::Update(_, _) => 1,
-            Open::Body(_, _, _) | Open::Target(_) | Open::Otherwise(_, _) => 0,
-            Open::Bound(_) | Open::Noted(_) | Open::Emptied(_) | Open::Asserted => 0,
+            Open::Applied(_) | Open::Merged(_) | Open::Somed | Open::Mapped => IMPORT,
+            Open::Update(_, _) => OPERATOR,
+            Open::Body(_, _, _) | Open::Target(_) | Open::Otherwise(_, _) => ANY,
+            Open::Bound(_) | Open::Noted(_) | Open::Emptied(_) | Open::Asserted => ANY,
         }
     }
 
@@ -75,11 +76,11 @@ impl<M: Makes> Shut<M> {
         ensures { result ≡ shut_asks (shut_of M.views self.now) }
     {
         match self {
-            Shut::First => 15,
-            Shut::Bracket | Shut::Domain(_, _) | Shut::Condition => 0,
-            Shut::Branch(_) | Shut::LetType(_, _) | Shut::LetValue(_, _, _) => 0,
-            Shut::Selected(_) | Shut::Items(_, _) | Shut::AlternativeType(_, _, _) => 0,
-            Shut::FieldType(_, _, _) | Shut::EntryValue(_, _, _) | Shut::Chunk(_, _) => 0,
+            Shut::First => IMPORT,
+            Shut::Bracket | Shut::Domain(_, _) | Shut::Condition => ANY,
+            Shut::Branch(_) | Shut::LetType(_, _) | Shut::LetValue(_, _, _) => ANY,
+            Shut::Selected(_) | Shut::Items(_, _) | Shut::AlternativeType(_, _, _) => ANY,
+            Shut::FieldType(_, _, _) | Shut::EntryValue(_, _, _) | Shut::Chunk(_, _) => ANY,
         }
     }
 }
@@ -92,7 +93,7 @@ impl<M: Makes> Frames<M> {
         match self.top() {
             Some(Frame::Open(frame)) => frame.asks(),
             Some(Frame::Shut(frame)) => frame.asks(),
-            None => 0,
+            None => ANY,
         }
     }
 

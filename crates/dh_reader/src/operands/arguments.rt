@@ -7,8 +7,8 @@ ghost use Rattle.dh_reader.specs.Inside.Newest.{awaits_first};
 ghost use Rattle.dh_reader.specs.Stacks.{stack_of};
 
 use crate::frames::{Frame, Frames, Open, Shut};
+use crate::levels::APPLICATION;
 use crate::operands::beginning::begin;
-use crate::operands::levels::APPLICATION;
 use crate::reader::Reader;
 use crate::stops::{Stop, refused};
 use crate::tops::Top;

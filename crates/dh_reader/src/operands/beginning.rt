@@ -7,7 +7,7 @@ ghost use Rattle.dh_reader.specs.Stacks.{stack_of};
 ghost use Rattle.dh_syntax.specs.declared.tokens.TokenKind.TheVariants as kinds;
 
 use crate::frames::{Frame, Open, Shut};
-use crate::operands::levels::{ANY, APPLICATION, IMPORT};
+use crate::levels::{ANY, APPLICATION, IMPORT};
 use crate::reader::Reader;
 use crate::stops::{Stop, refused};
 use crate::tops::{Front, Held, Imported, Top, Wait};

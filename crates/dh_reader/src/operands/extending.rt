@@ -11,8 +11,8 @@ ghost use Rattle.dh_syntax.specs.declared.tokens.Mark.TheVariants as marks;
 ghost use Rattle.dh_syntax.specs.declared.tokens.TokenKind.TheVariants as kinds;
 
 use crate::closing::{Closing, close};
+use crate::levels::{ANY, APPLICATION, OPERATOR, SELECTION};
 use crate::operands::arguments::argue;
-use crate::operands::levels::{ANY, APPLICATION, OPERATOR, SELECTION};
 use crate::operands::operators::{annotate, operate, point, renew, select};
 use crate::reader::Reader;
 use crate::stops::{Stop, refused};

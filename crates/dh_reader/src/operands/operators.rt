@@ -7,7 +7,7 @@ ghost use Rattle.dh_reader.specs.Inside.Newest.{updates};
 ghost use Rattle.dh_reader.specs.Stacks.{stack_of};
 
 use crate::frames::{Frame, Frames, Open};
-use crate::operands::levels::{ANY, IMPORT, SELECTION};
+use crate::levels::{ANY, IMPORT, SELECTION};
 use crate::reader::Reader;
 use crate::stops::{Stop, refused};
 use crate::tops::{Top, Wait};

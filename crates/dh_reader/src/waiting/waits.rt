@@ -31,7 +31,7 @@ pub fn waited<M: Makes>(
     awaited(reader, wait, kind)
 }
 
-/// The same, by the waits.
+/// The next place of the reader after a token at this wait: each wait has a call of its own.
 fn awaited<M: Makes>(reader: &mut Reader<M>, wait: Wait<M>, kind: TokenKind) -> Result<Top<M>, Stop>
     ensures { Follows M.views (next (M.makes reader.old.at) (wait_of M.views wait) kind (stack_of M.views reader.old.frames)) reader.new result }
 {

@@ -134,7 +134,7 @@ impl<'a> Due<'a> {
                 item_of(alloc, key, None, body)
             }
             Due::Entry(entry) => {
-                entry.is_value();
+                entry.by_value();
                 let body = Body::Entry(copy(alloc, entry.expr())?);
                 item_of(alloc, key, None, body)
             }

@@ -4,8 +4,8 @@ use Rattle.dh_syntax.specs.Expressions.Numbers.{eq}
 use Rattle.dh_imports.specs.Machine as machine
 use Rattle.dh_imports.specs.Machine.{InFlight, State, Task, stage_of}
 use Rattle.dh_imports.specs.Records.{lookup}
-use Rattle.dh_table.specs.declared.flights.Name.{Name}
-use Rattle.dh_table.specs.declared.flights.Name.TheVariants as names
+use Rattle.dh_table.specs.declared.steps.flights.Name.{Name}
+use Rattle.dh_table.specs.declared.steps.flights.Name.TheVariants as names
 use Rattle.dh_record.specs.declared.items.Item.{Item}
 use Rattle.dh_table.specs.declared.steps.Flight.{Flight}
 use Rattle.dh_record.specs.declared.rows.recorded.Entrant.{Entrant}
@@ -15,6 +15,7 @@ use Rattle.dh_table.specs.States.{task_of, flight_of}
 
 -- ---- flights
 
+-- the task that a name tells
 abbrev pub task_named : Name → Task
 task_named (names.Fetch l) = machine.Fetch l.now
 task_named (names.Look d) = machine.Look d.now

@@ -16,9 +16,9 @@ use Rattle.dh_imports.specs.Walk.{Turns, wants}
 use Rattle.dh_demand.specs.declared.scans.Edge.{Edge}
 use Rattle.dh_demand.specs.Results.{Row, ask_of, number_of}
 use Rattle.dh_demand.specs.Wants.{HasNumber}
-use Rattle.dh_table.specs.declared.explored.Explored.{Explored}
-use Rattle.dh_table.specs.declared.searches.Tried.{Tried}
-use Rattle.dh_table.specs.declared.searches.Tried.TheVariants as tries
+use Rattle.dh_table.specs.declared.search.explored.Explored.{Explored}
+use Rattle.dh_table.specs.declared.search.searches.Tried.{Tried}
+use Rattle.dh_table.specs.declared.search.searches.Tried.TheVariants as tries
 use Rattle.dh_table.specs.declared.steps.Flight.{Flight}
 use Rattle.dh_table.specs.declared.steps.Job.{Job}
 use Rattle.dh_record.specs.declared.rows.recorded.Entrant.{Entrant}
@@ -70,6 +70,7 @@ pub record IsJob (s : State) (keys : List Entrant) (j : Job) : Type 0 where
   pub inside : j.key < length keys
   pub frozen : IsFrozenLook keys j
 
+-- what a search comes to: an open task, or that none is open
 abbrev pub IsFound : State → List Entrant → Option Job → Type 0
 IsFound s keys (Some j) = IsJob s keys j
 IsFound s keys None = (t : Task) → ¬ IsOpen s t
@@ -83,6 +84,7 @@ pub record IsWaiting (s : State) (keys : List Entrant) (places : List ℕ) (n m 
   pub waits_for : IsAmong (key_named keys m) (leads_to s (key_named keys n))
   pub leads : (j : Key) → IsAmong j (leads_to s (key_named keys n)) → IsPlaced keys places j
 
+-- the key has an outcome
 abbrev pub IsDecided : State → Key → Type 0
 IsDecided s k = ¬ (outcome_of s k ≡ None)
 
@@ -94,9 +96,11 @@ pub record AreKnown (s : State) (keys : List Entrant) (hole : ℕ → Type 0) (p
   pub taken : (n : ℕ) → number_at places n ≡ 1 → hole n ⊎ IsDecided s (key_named keys n)
   pub waits : (n m : ℕ) → number_at places n ≡ m + 4 → IsWaiting s keys places n m
 
+-- no number is at the hole
 abbrev pub no_hole : ℕ → Type 0
 no_hole n = ⊥
 
+-- the piles of an exploration tell what is known of the keys, with no key at the hole
 abbrev pub IsExploredBy : State → List Entrant → Explored → Type 0
 IsExploredBy s keys e = AreKnown s keys no_hole e.piles
 
@@ -129,6 +133,7 @@ pub record AreEdgesPut (count : ℕ) (es : List Edge) (marks : List Bool) (old n
   pub each : (n : ℕ) → HasEdge count es n → is_set marks n ≡ true → ¬ (number_at new n ≡ 0)
   pub only : (n : ℕ) → (number_at new n ≡ number_at old n) ⊎ ((number_at old n ≡ 0) × (number_at new n ≡ 2) × (is_set marks n ≡ true) × HasEdge count es n)
 
+-- how often a key at this place may still be put on the pile 2 or taken from it
 abbrev pub turns_left : ℕ → ℕ
 turns_left zero = 2
 turns_left (suc zero) = 0

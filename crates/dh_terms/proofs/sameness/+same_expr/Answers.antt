@@ -28,14 +28,14 @@ are_same_kids-returns t c =
     rows_end c.as_slice-kids.result.now c.as_slice-others.result.now c.loop-i.i _ (omega (arith, c.loop-i-test.false)) (omega (arith, c.loop-i-test.false, c.if-kids-others.false))
     (c.loop-i.invariant ∙ ap (λ ks. row_eq (row_of ks) (row_of c.as_slice-others.result.now)) c.as_slice-kids.ensures ∙ ap (λ js. row_eq (row_of c.args.kids.now) (row_of js)) c.as_slice-others.ensures)
 
-pub is_same_expr-returns-then-is_named : goal.is_same_expr-returns-then-is_named
-is_same_expr-returns-then-is_named t c =
-    sym (eq-native c.in-Var-Var.i c.in-Var-Var.j) ∙ ap (λ b. b && eq c.in-Var-Var.i c.in-Var-Var.j) (sym (sym c.is_named.ensures ∙ c.if-is_named.true))
+pub is_same_expr-returns-then-is_same_label : goal.is_same_expr-returns-then-is_same_label
+is_same_expr-returns-then-is_same_label t c =
+    sym (eq-native c.in-Var-Var.i c.in-Var-Var.j) ∙ ap (λ b. b && eq c.in-Var-Var.i c.in-Var-Var.j) (sym (sym c.is_same_label.ensures ∙ c.if-is_same_label.true))
     ∙ sym (same-Var c.args.a.now c.args.b.now c.in-Var-Var.x c.in-Var-Var.y c.in-Var-Var.i c.in-Var-Var.j c.in-Var-Var.is-0 c.in-Var-Var.is-1)
 
-pub is_same_expr-returns-else-is_named : goal.is_same_expr-returns-else-is_named
-is_same_expr-returns-else-is_named t c =
-    c.if-is_named.false ∙ ap (λ b. b && eq c.in-Var-Var.i c.in-Var-Var.j) (sym (sym c.is_named.ensures ∙ c.if-is_named.false))
+pub is_same_expr-returns-else-is_same_label : goal.is_same_expr-returns-else-is_same_label
+is_same_expr-returns-else-is_same_label t c =
+    c.if-is_same_label.false ∙ ap (λ b. b && eq c.in-Var-Var.i c.in-Var-Var.j) (sym (sym c.is_same_label.ensures ∙ c.if-is_same_label.false))
     ∙ sym (same-Var c.args.a.now c.args.b.now c.in-Var-Var.x c.in-Var-Var.y c.in-Var-Var.i c.in-Var-Var.j c.in-Var-Var.is-0 c.in-Var-Var.is-1)
 
 pub is_same_expr-returns-then-is_same_op : goal.is_same_expr-returns-then-is_same_op

@@ -9,7 +9,7 @@ ill_reply-requires g c =
     let s = c.requires.stands in
     let here = stands_found c.args.table.now c.args.blame.now c.args.ill.now c.in-Some.key c.in-Some.is s in
     let text_is : c.in-Some-bytes_at.text.now ≡ s.text = some-equal (c.in-Some-bytes_at.ensures.found s.text s.reading.allow s.spelled here) in
-    record { spelled = (s.spelled, subst (λ u. ParsesTo u (Ok s.spelled)) (sym text_is) (stands_parsed c.args.table.now c.args.blame.now c.args.ill.now c.is_replayed.ensures s)) }
+    record { spelled = (s.spelled, subst (λ u. ParsesTo u (Ok s.spelled)) (sym text_is) (stands_parsed c.args.table.now c.args.blame.now c.args.ill.now c.by_history.ensures s)) }
 
 pub returns : goal.returns
 returns g c =
@@ -17,4 +17,4 @@ returns g c =
     let here = stands_found c.args.table.now c.args.blame.now c.args.ill.now c.in-Some.key c.in-Some.is s in
     let text_is : c.in-Some-bytes_at.text.now ≡ s.text = some-equal (c.in-Some-bytes_at.ensures.found s.text s.reading.allow s.spelled here) in
     told_in_text c.ill_reply.result c.args.table.now c.args.blame.now c.args.ill.now c.in-Some.key _ c.in-Some-bytes_at.text.now c.as_slice-2.result.now c.as_slice.result.now
-    c.is_replayed.ensures c.requires.told s c.in-Some.is refl text_is c.as_slice.ensures (λ bytes allow e h. c.as_slice-2.ensures.value ∙ c.in_ok-path.ensures.found bytes allow e h) c.ill_reply.ensures
+    c.by_history.ensures c.requires.told s c.in-Some.is refl text_is c.as_slice.ensures (λ bytes allow e h. c.as_slice-2.ensures.value ∙ c.in_ok-path.ensures.found bytes allow e h) c.ill_reply.ensures

@@ -21,9 +21,9 @@ returns-in_ok-reply-in-Ok-clause-served g c =
     c.in-Ok.answered.table c.in-Ok.answered.ended _ c.in_ok-reply-in-Ok.reply c.requires.text refl
     (record {
       root_is = c.in-Ok.ensures.root;
-      texts = c.tells.ensures.texts;
-      looks = c.tells.ensures.looks;
-      replayed = c.is_replayed.ensures;
+      texts = c.by_world.ensures.texts;
+      looks = c.by_world.ensures.looks;
+      replayed = c.by_history.ensures;
       asks = c.in-Ok.ensures.ends.asks;
       fails = c.in-Ok.ensures.ends.fails;
       fell = more_left c.resolve_one.ensures.counted none_left;

@@ -22,9 +22,9 @@ returns-in-Ok g c =
     list_generated asked_of _ _ c.args.text.now (term c.args.e) c.in-Ok.answered.table c.in-Ok.answered.ended (map pair_of c.in-Ok.answered.keeps)
     (record {
       root_is = c.in-Ok.ensures.root;
-      texts = c.tells.ensures.texts;
-      looks = c.tells.ensures.looks;
-      replayed = c.is_replayed.ensures;
+      texts = c.by_world.ensures.texts;
+      looks = c.by_world.ensures.looks;
+      replayed = c.by_history.ensures;
       asks = c.in-Ok.ensures.ends.asks;
       fails = c.in-Ok.ensures.ends.fails;
       fell = c.in-Ok.ensures.counted;

@@ -15,10 +15,10 @@ ready_reply-requires-clause-indices g c = value_indices c.args.table.now c.in-Re
 
 pub returns-in-Ready : goal.returns-in-Ready
 returns-in-Ready g c =
-    ok_map c.ready_reply.result (λ w a. valued_ended c.args.verb c.args.text.now c.args.table.now c.in-Ready.e (written w) c.is_replayed.ensures (subst (IsClosed c.args.table.now) c.in-Ready.is c.requires.closed) a) c.ready_reply.ensures
+    ok_map c.ready_reply.result (λ w a. valued_ended c.args.verb c.args.text.now c.args.table.now c.in-Ready.e (written w) c.by_history.ensures (subst (IsClosed c.args.table.now) c.in-Ready.is c.requires.closed) a) c.ready_reply.ensures
 
 pub blame_reply-requires : goal.blame_reply-requires
-blame_reply-requires g c = record { stands = fault_stands c.args.table.now c.in-Bad.blame c.is_replayed.ensures (subst (IsClosed c.args.table.now) c.in-Bad.is c.requires.closed) }
+blame_reply-requires g c = record { stands = fault_stands c.args.table.now c.in-Bad.blame c.by_history.ensures (subst (IsClosed c.args.table.now) c.in-Bad.is c.requires.closed) }
 
 pub returns-in-Bad : goal.returns-in-Bad
 returns-in-Bad g c =

@@ -64,7 +64,7 @@ invariant_of-self g c =
     let room : vec_len t.flights + 1 ≤ v.spare = search rules in
     let explored = c.free.new.self in
     let roomy : HasRoom (length keys) explored = c.free.ensures.room (length keys) inv.scratch.explored in
-    let may : May e s = (in_time, is_done s i o done.limited (ap (λ k. limit_at s.recorded k) (sym named) ∙ unlimited) c.is_last.ensures) in
+    let may : May e s = (in_time, is_done s i o done.limited (ap (λ k. limit_at s.recorded k) (sym named) ∙ unlimited) c.by_last_step.ensures) in
     let of_key : Key → machine.Event = λ k. machine.Finished serial k (stage_of_item i) (limit_by done.limited o) (plain o) in
     let opens : explored.known ≡ true → is_open_value (key_named keys n).loc o ≡ true = λ h. search rules in
     record {
@@ -79,7 +79,7 @@ invariant_of-self g c =
       owned = along (λ es. All IsOwned es) (sym keys_is) (decided_owned keys n o inside d inv.owned);
       asks = ap outcome_of state_is ∙ ap (λ (k : Key). outcome_of (machine.effect (machine.Finished serial k (stage_of_item i) (limit_by done.limited o) (plain o)) s)) (sym named) ∙ asks_after s keys n o inside d inv.asks ∙ ap (λ es. ask_of (rows_of es)) (sym keys_is);
       known = along (λ es. IsKnown t.root es t.texts.items) (sym keys_is) (decided_known keys n o inside d t.root t.texts.items inv.known);
-      fit = along (λ es. AreFit es c.retain.new.self.items) (sym keys_is) (fit_decided keys n o c.retain.new.self.items inside d c.has_value.ensures (fit_filtered keys (others serial) t.flights.items c.retain.new.self.items left inv.fit));
+      fit = along (λ es. AreFit es c.retain.new.self.items) (sym keys_is) (fit_decided keys n o c.retain.new.self.items inside d c.by_value.ensures (fit_filtered keys (others serial) t.flights.items c.retain.new.self.items left inv.fit));
       scratch = along (λ m. IsRoomy m (record t.scratch { explored = explored })) (sym sizes) (record { explored = roomy; seen = inv.scratch.seen; trail = inv.scratch.trail });
       explored =
           λ h.
@@ -124,7 +124,7 @@ returns-clause-lands g c =
     finished_state v n o inside d undecided unlimited next done.limited _ refl keys_is refl refl c.put.ensures.items limits (filtered-flights keys serial t.flights.items _ left) refl
     ∙ ap (λ (k : Key). machine.effect (machine.Finished serial k (stage_of_item i) (limit_by done.limited o) (plain o)) s) named in
     record {
-      may = (c.requires.in_time, along (λ (x : Shown). IsDone (state_of x) i.key (stage_of_item i) (limit_by done.limited o) (plain o)) c.self.view_is (is_done s i o done.limited (ap (λ k. limit_at s.recorded k) (sym named) ∙ unlimited) c.is_last.ensures));
+      may = (c.requires.in_time, along (λ (x : Shown). IsDone (state_of x) i.key (stage_of_item i) (limit_by done.limited o) (plain o)) c.self.view_is (is_done s i o done.limited (ap (λ k. limit_at s.recorded k) (sym named) ∙ unlimited) c.by_last_step.ensures));
       state_is = state_is ∙ ap (λ (x : Shown). machine.effect e (state_of x)) c.self.view_is;
       adds = record {
         history_is = c.put-2.ensures.items ∙ ap (λ (x : Shown). x.history ++ steps.Finished serial ∷ []) c.self.view_is;
