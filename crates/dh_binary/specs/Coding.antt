@@ -14,6 +14,7 @@ use Rattle.dh_binary.specs.Written.{IsSized}
 abbrev pub Decodes : Type 0
 Decodes = (bytes : List ℕ) → DecodesTo bytes (decoded bytes)
 
+-- bytes decode to one answer only
 abbrev pub DecodesOnce : Type 0
 DecodesOnce = (bytes : List ℕ) (r : Result Term DecodeFault) → DecodesTo bytes r → r ≡ decoded bytes
 

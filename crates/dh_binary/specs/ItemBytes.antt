@@ -4,6 +4,7 @@ use Rattle.dh_syntax.specs.Bytes.BinaryHeads.{Atom, unsigned, negative, octets, 
 use Rattle.dh_syntax.specs.Bytes.BinaryItems.{Item, single, array_of, map_of, tagged, Items, no_items, more_items, Pairs, no_pairs, more_pairs, item_count, pair_count}
 use Rattle.dh_syntax.specs.Bytes.Cbor.{head, bytes, text}
 
+-- the bytes of an atom, in its shortest head
 abbrev pub atom_bytes : Atom → List ℕ
 atom_bytes (unsigned n) = head 0 n
 atom_bytes (negative n) = head 1 n
@@ -30,6 +31,7 @@ abbrev mutual
 abbrev pub fits_head : ℕ → Bool
 fits_head n = nat_lt n (2 ^ 64)
 
+-- whether the number or the length of an atom fits its head
 abbrev pub atom_sized : Atom → Bool
 atom_sized (unsigned n) = fits_head n
 atom_sized (negative n) = fits_head n

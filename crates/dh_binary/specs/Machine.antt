@@ -22,12 +22,14 @@ use Rattle.dh_syntax.specs.Expressions.Tree.{Name, Var}
 
 -- ---- what the machine makes
 
+-- how expressions are made of their parts
 pub record Making (T : Type 0) : Type 0 where
   pub leaf : Var → T
   pub node : Op → List T → T
   -- a node whose last part stands under a binder
   pub under : Op → List T → Name → T → T
 
+-- a label with what stands behind it, if anything does
 pub record Entry (T : Type 0) : Type 0 where
   pub name : Name
   pub value : Option T
@@ -52,6 +54,7 @@ pub data Value (T : Type 0) : Type 0 where
 
 -- ---- what an item is wanted as
 
+-- what is wanted next
 pub data Want : Type 0 where
   -- an expression; an expression with any marks of CBOR before it; null or an expression
   term : Want
@@ -85,20 +88,24 @@ pub data Want : Type 0 where
 
 -- ---- what stands open: an array or a map, with what was made of its items
 
+-- what a map has behind its labels: types, values, or alternatives with or without a type
 pub data RowKind : Type 0 where
   types : RowKind
   values : RowKind
   alternatives : RowKind
 
+-- one binding of a let: its label, its annotation if there is one, and its value
 pub record Binding (T : Type 0) : Type 0 where
   pub name : Name
   pub type : Option T
   pub value : T
 
+-- the digest of an import, if it has one, and its mode
 pub record Start : Type 0 where
   pub digest : Option Digest
   pub mode : Mode
 
+-- where in an array the reader is, with what was read of it
 pub data Place (T : Type 0) : Type 0 where
   -- [ ]
   first : Place T
@@ -161,6 +168,7 @@ pub data Place (T : Type 0) : Type 0 where
 
 -- ---- the rows
 
+-- whether a number is odd
 abbrev pub is_odd : ℕ → Bool
 is_odd zero = false
 is_odd (suc zero) = true
@@ -172,6 +180,7 @@ lets_fit (suc (suc (suc (suc zero)))) = true
 lets_fit (suc (suc (suc n))) = lets_fit n
 lets_fit _ = false
 
+-- a value, if the condition holds
 abbrev pub when : {A : Type 0} → Bool → A → Option A
 when c x = if c then Some x else None
 
@@ -216,26 +225,32 @@ scheme_fits n m =
     else if n == 7 then eq m 0
     else false
 
+-- whether there is a value
 abbrev pub is_some : {A : Type 0} → Option A → Bool
 is_some (Some x) = true
 is_some None = false
 
+-- this place, or that at the first item of an array
 abbrev pub or_first : {T : Type 0} → Option (Place T) → Place T
 or_first (Some p) = p
 or_first None = first
 
 -- ---- what is wanted in a place, where so many items are left
 
+-- whether a label is among these
 abbrev pub among : List ℕ → List Name → Bool
 among x [] = false
 among x (y ∷ ys) = bytes_eq x y || among x ys
 
+-- whether a text is a label that is none of these
 abbrev pub fresh : List Name → List ℕ → Bool
 fresh xs x = is_label x && is_some (inserted (λ y. y) x xs)
 
+-- whether a text is a label that none of these entries has
 abbrev pub fresh_key : {T : Type 0} → List (Entry T) → List ℕ → Bool
 fresh_key es x = is_label x && is_some (inserted (λ e. e.name) (record { name = x; value = None }) es)
 
+-- whether a text is a label other than `_`, as a variable with a name has
 abbrev pub is_named : List ℕ → Bool
 is_named x = is_label x && not (bytes_eq x (codes "_"))
 
@@ -485,6 +500,7 @@ pub record Frame (T : Type 0) : Type 0 where
   pub place : Place T
   pub left : ℕ
 
+-- a state of the reader: it reads what is wanted within open items, is done, or has stopped
 pub data State (T : Type 0) : Type 0 where
   reading : Want → List (Frame T) → State T
   done : Value T → State T
@@ -535,5 +551,6 @@ module _ {T : Type 0} (m : Making T) where
   run beyond s [] = s
   run beyond s (k ∷ ks) = run beyond (after beyond k s) ks
 
+-- the state before any head is read: a whole expression is wanted
 abbrev pub start : {T : Type 0} → State T
 start = reading whole []

@@ -14,14 +14,17 @@ use Rattle.dh_binary.specs.Inside.Terms.{terms}
 
 -- ---- what stands open
 
+-- how many items are left in each array or map that stands open
 abbrev pub lefts : {T : Type 0} → List (Frame T) → Open
 lefts [] = 0 ∷ []
 lefts (f ∷ st) = f.left ∷ lefts st
 
+-- one more item is left in the innermost open array
 abbrev pub one_more : Open → Open
 one_more [] = []
 one_more (n ∷ ns) = suc n ∷ ns
 
+-- how many items are left in each open array, with the one that is read now
 abbrev pub opens : {T : Type 0} → State T → Open
 opens (reading w st) = one_more (lefts st)
 opens s = []
@@ -34,6 +37,7 @@ opens_with _ st = 0
 
 -- ---- the answer
 
+-- the fault of a head that cannot be read, at its offset
 abbrev pub head_fault : HeadFault → ℕ → DecodeFault
 head_fault cut at = fault.Cut at
 head_fault indefinite at = fault.Indefinite at
@@ -47,6 +51,7 @@ is_big big_natural = true
 is_big (big_integer t) = true
 is_big w = false
 
+-- whether a state is stopped
 abbrev pub is_stopped : {T : Type 0} → State T → Bool
 is_stopped stopped = true
 is_stopped s = false
@@ -55,6 +60,7 @@ is_stopped s = false
 abbrev pub refused : {T : Type 0} → ℕ → ℕ → Want → State T → DecodeFault
 refused from at w s = if is_stopped s then fault.Shape at else fault.Wide (if is_big w then from else at)
 
+-- the answer once a value is read: bytes that are left over, or too deep a nesting, are its fault
 abbrev pub finish : List ℕ → List ℕ → Value Term → Result Term DecodeFault
 finish bytes [] (holds e) = if nat_le (nesting e) most_nesting then Ok e else Err fault.TooNested
 finish bytes (b ∷ bs) (holds e) = Err (fault.Rest (offset bytes (b ∷ bs)))
@@ -68,6 +74,7 @@ judge go bytes from a w st m =
     else if nat_lt most_open_items (opens_with m.mark st) then Err fault.TooNested
     else go (offset bytes a) m.after s
 
+-- the answer from the next head on, or the fault of that head
 abbrev pub answer_at : (ℕ → List ℕ → State Term → Result Term DecodeFault) → List ℕ → ℕ → List ℕ → Want → List (Frame Term) → Result Marked HeadFault → Result Term DecodeFault
 answer_at go bytes from a w st (Err f) = Err (head_fault f (offset bytes a))
 answer_at go bytes from a w st (Ok m) = judge go bytes from a w st m
@@ -78,5 +85,6 @@ decide k bytes from a (done v) = finish bytes a v
 decide (suc k) bytes from a (reading w st) = answer_at (λ f r s. decide k bytes f r s) bytes from a w st (mark_at a)
 decide k bytes from a s = Err fault.Memory
 
+-- the expression that bytes encode, or why there is none
 abbrev pub verdict : List ℕ → Result Term DecodeFault
 verdict bytes = decide (suc (length bytes)) bytes 0 bytes start

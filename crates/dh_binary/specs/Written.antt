@@ -22,45 +22,56 @@ use Rattle.dh_binary.specs.ItemBytes.{item_bytes, sized}
 
 -- ---- items
 
+-- an expression as it is written: alone, as a function with its arguments, and as the bindings of a let
 pub record Written : Type 0 where
   pub alone : Item
   pub applied : List Item
   pub bound : List Item
 
+-- items in their order
 abbrev pub listed : List Item → Items
 listed [] = no_items
 listed (i ∷ is) = more_items i (listed is)
 
+-- an array that begins with this number
 abbrev pub row_of : ℕ → List Item → Item
 row_of n is = array_of (more_items (single (unsigned n)) (listed is))
 
+-- what is written in the same way wherever it stands
 abbrev pub just : Item → Written
 just i = record { alone = i; applied = i ∷ []; bound = i ∷ [] }
 
+-- a text as an item
 abbrev pub label : Name → Item
 label x = single (characters x)
 
+-- null
 abbrev pub no : Item
 no = single (simple 22)
 
+-- a natural number, as a bignum where it has more than 64 bits
 abbrev pub natural : ℕ → Item
 natural n = if nat_lt n (2 ^ 64) then single (unsigned n) else tagged 2 (single (octets (fewest_bytes n)))
 
+-- the item of the Integer -1 - n, a bignum where 64 bits do not suffice
 abbrev pub below_zero : ℕ → Item
 below_zero n = if nat_lt n (2 ^ 64) then single (negative n) else tagged 3 (single (octets (fewest_bytes n)))
 
+-- an application, which is joined with the arguments of its function
 abbrev pub application : Written → Written → Written
 application f a =
     let is = f.applied ++ a.alone ∷ [] in
     let i = row_of 0 is in
     record { alone = i; applied = is; bound = i ∷ [] }
 
+-- a let, which is joined with the bindings of its body
 abbrev pub binding : Item → Item → Item → Written → Written
 binding x type value body =
     let is = x ∷ type ∷ value ∷ body.bound in
     let i = row_of 25 is in
     record { alone = i; applied = i ∷ []; bound = is }
 
+-- a function or a function type of this code, without its label where that is `_`
 abbrev pub function : ℕ → Item → Name → Item → Written
 function code type x body = just (if bytes_eq x (codes "_") then row_of code (type ∷ body ∷ []) else row_of code (label x ∷ type ∷ body ∷ []))
 
@@ -69,22 +80,26 @@ abbrev pub is_text : List ℕ → Item → Bool
 is_text t (single (characters x)) = bytes_eq x t
 is_text t i = false
 
+-- an empty list by its annotation, in the short form where that is `List T`
 abbrev pub empty_list : Written → Item
 empty_list t = elim t.applied [
   | (l ∷ x ∷ []) ↦ if is_text (codes "List") l then row_of 4 (x ∷ []) else row_of 28 (t.alone ∷ [])
   | _ ↦ row_of 28 (t.alone ∷ [])
 ]
 
+-- the pieces of a text and its expressions by turns
 abbrev pub interleaved : List (List ℕ) → List Item → List Item
 interleaved [] es = []
 interleaved (p ∷ ps) [] = label p ∷ interleaved ps []
 interleaved (p ∷ ps) (e ∷ es) = label p ∷ e ∷ interleaved ps es
 
+-- labels with their items, as pairs of a map
 abbrev pub pairs : List Name → List Item → Pairs
 pairs [] es = no_pairs
 pairs (x ∷ xs) [] = no_pairs
 pairs (x ∷ xs) (e ∷ es) = more_pairs (label x) e (pairs xs es)
 
+-- alternatives with their types, or null where they have none, as pairs of a map
 abbrev pub alternatives : List Alt → List Item → Pairs
 alternatives [] ts = no_pairs
 alternatives (a ∷ as') ts = elim a.typed [
@@ -92,21 +107,26 @@ alternatives (a ∷ as') ts = elim a.typed [
   | true ↦ elim ts [ [] ↦ no_pairs | (t ∷ ts') ↦ more_pairs (label a.label) t (alternatives as' ts') ]
 ]
 
+-- an integer as an item
 abbrev pub integer : ℤ → Item
 integer (pos n) = natural n
 integer (negsuc n) = below_zero n
 
+-- a digest behind the two bytes that name SHA-256, or null where there is none
 abbrev pub digest_item : Option Digest → Item
 digest_item None = no
 digest_item (Some d) = single (octets (18 ∷ 32 ∷ d.0))
 
+-- a text, or null where there is none
 abbrev pub optional_text : Option (List ℕ) → Item
 optional_text None = no
 optional_text (Some t) = label t
 
+-- the items of a URL behind the number of its scheme: no headers, host, path and query
 abbrev pub url_items : ℕ → Url → List Item
 url_items scheme u = single (unsigned scheme) ∷ no ∷ label u.host ∷ map label u.comps ++ optional_text u.query ∷ []
 
+-- the items of a location
 abbrev pub loc_items : Loc → List Item
 loc_items (locs.Http u) = url_items 0 u
 loc_items (locs.Https u) = url_items 1 u
@@ -117,31 +137,39 @@ loc_items (locs.Home cs) = single (unsigned 5) ∷ map label cs
 loc_items (locs.Env x) = single (unsigned 6) ∷ label x ∷ []
 loc_items locs.Missing = single (unsigned 7) ∷ []
 
+-- the array of an import: its digest, mode and location
 abbrev pub import_item : Import → Item
 import_item i = row_of 24 (digest_item i.digest ∷ single (unsigned (mode_code i.mode)) ∷ loc_items i.loc)
 
+-- a variable: its index alone where its name is `_`, else its name and index
 abbrev pub variable_item : Var → Item
 variable_item v = if bytes_eq v.name (codes "_") then single (unsigned v.index) else array_of (more_items (label v.name) (more_items (single (unsigned v.index)) no_items))
 
+-- a truth value as an item
 abbrev pub truth : Bool → Item
 truth false = single (simple 20)
 truth true = single (simple 21)
 
+-- a part of a node as it is written, plain or under a binder
 pub data Part : Type 0 where
   plain : Written → Part
   under : Name → Written → Part
 
+-- a part, under its binder if it has one
 abbrev pub part : Option Name → Written → Part
 part None w = plain w
 part (Some x) w = under x w
 
+-- the item of a part that stands alone
 abbrev pub part_item : Part → Item
 part_item (plain w) = w.alone
 part_item (under x w) = w.alone
 
+-- the items of parts that stand alone
 abbrev pub items : List Part → List Item
 items ps = map part_item ps
 
+-- a node as it is written
 abbrev pub node : Op → List Part → Written
 node (ops.Builtin b) ps = just (label (builtin_name b))
 node (ops.Bool b) ps = just (truth b)
@@ -181,6 +209,7 @@ abbrev mutual
   all_written end = []
   all_written (kid x e r) = part x (written e) ∷ all_written r
 
+-- the item that an expression is written as
 abbrev pub item : Term → Item
 item e = (written e).alone
 
@@ -188,11 +217,14 @@ item e = (written e).alone
 abbrev pub WritesItem : Term → Type 0
 WritesItem e = enc e ≡ item_bytes (item e)
 
+-- each number, length and count of an expression's item fits its head
 abbrev pub IsSized : Term → Type 0
 IsSized e = sized (item e) ≡ true
 
+-- the item of an expression reads back as the expression
 abbrev pub ReadsBack : Term → Type 0
 ReadsBack e = expression false (item e) ≡ Some e
 
+-- What is encoded of an expression is read back as that expression.
 abbrev pub ReadsWhatIsWritten : Type 0
 ReadsWhatIsWritten = (e : Term) → IsSpellable e → HasValues e → length (enc e) < 2 ^ 64 → Reads (enc e) e

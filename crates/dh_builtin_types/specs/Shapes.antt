@@ -6,6 +6,7 @@ use Rattle.dh_syntax.specs.Expressions.Forms.{builtin, call, forall, list_type, 
 use Rattle.dh_syntax.specs.Expressions.Tree.{Leaf, Name}
 use Rattle.dh_syntax.specs.Names.Nameless.{Bound, Core}
 
+-- the bound variable of this number
 abbrev pub var : ℕ → Core
 var i = Leaf (Bound i)
 

@@ -33,6 +33,7 @@ IsOriginKept o p = (p ≡ o) ⊎ (p ≡ Cached)
 abbrev pub IsLimit : Blame → Type 0
 IsLimit b = why_status b.why ≡ status.Limit
 
+-- the outcome is a limit, which a run may name
 abbrev pub IsLimited : Outcome → Type 0
 IsLimited (Good v o) = ⊥
 IsLimited (Bad b) = IsLimit b

@@ -39,6 +39,7 @@ GivesHead bytes at r (Err f) = (r ≡ Err (reason f)) × (place f ≡ at)
 abbrev pub ReadsHead : List ℕ → ℕ → Result program.Head CborFault → Type 0
 ReadsHead bytes at r = GivesHead bytes at (head_at (drop at bytes)) r
 
+-- an item without parts that the program gives, as the definitions have it
 abbrev pub the_atom : program_atoms.Atom → Atom
 the_atom (atoms.Unsigned n) = unsigned n
 the_atom (atoms.Negative n) = negative n
@@ -53,9 +54,11 @@ the_mark (marks.Array n) = array n
 the_mark (marks.Map n) = map n
 the_mark (marks.Tag t) = tag t
 
+-- a head that the program gives, with the bytes that are behind it
 abbrev pub the_marked : List ℕ → program_marked.Marked → Marked
 the_marked bytes m = record { mark = the_mark m.mark; after = drop m.next bytes }
 
+-- the head, or its fault at this offset, that the program gives is what the definitions read
 abbrev pub GivesMark : List ℕ → ℕ → Result Marked HeadFault → Result program_marked.Marked CborFault → Type 0
 GivesMark bytes at r (Ok m) = r ≡ Ok (the_marked bytes m)
 GivesMark bytes at r (Err f) = (r ≡ Err (reason f)) × (place f ≡ at)

@@ -127,6 +127,7 @@ pub data FaultAnswer (r : Record) (b : Blame) (w : Response) : Type 0 where
 abbrev pub cycle_at : Key → Blame
 cycle_at j = record { at = Some j; why = why.Cycle }
 
+-- the fault of having too many keys, which is at no key
 abbrev pub too_many_keys : Blame
 too_many_keys = record { at = None; why = why.TooMany }
 

@@ -7,6 +7,7 @@ use Rattle.dh_imports.specs.declared.outcomes.Why.TheVariants as why
 use Rattle.dh_command.specs.declared.statuses.Status.{Status}
 use Rattle.dh_command.specs.declared.statuses.Status.TheVariants as status
 
+-- the exit code of a status
 abbrev pub code_of : Status → ℕ
 code_of status.Ok = 0
 code_of status.Text = 1
@@ -29,6 +30,7 @@ type_status types.Spent = status.Limit
 type_status types.Deep = status.Limit
 type_status types.Memory = status.Memory
 
+-- the status of a run that an item at fault decides, by why it is at fault
 abbrev pub why_status : Why → Status
 why_status (why.Parse f) = status.Text
 why_status (why.Typing f) = type_status f

@@ -13,6 +13,7 @@ value_digest (Some (variants.Good v o)) = Some (digest_of (term v))
 value_digest (Some (variants.Bad b)) = None
 value_digest None = None
 
+-- the digest of the value that is known, if there is one
 abbrev pub known_digest : Option (Option program.Outcome) → Option Digest
 known_digest (Some o) = value_digest o
 known_digest None = None
@@ -22,6 +23,7 @@ abbrev pub digest_at : List Row → Option ℕ → Option Digest
 digest_at rows (Some n) = known_digest (outcome_at rows n)
 digest_at rows None = None
 
+-- the digests of the rows of these numbers
 abbrev pub digests_at : List Row → List (Option ℕ) → List (Option Digest)
 digests_at rows ns = map (digest_at rows) ns
 

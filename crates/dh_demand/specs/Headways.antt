@@ -23,6 +23,7 @@ abbrev mutual
   is_straight (Leaf v) = true
   is_straight (Node op r) = is_straight_node (form_of op) r && are_straight r
 
+  -- no `?` stands in the parts of a node
   pub are_straight : Parts Var Name → Bool
   are_straight end = true
   are_straight (kid b e r) = is_straight e && are_straight r

@@ -46,6 +46,7 @@ abbrev mutual
   imports (Leaf v) = 0
   imports (Node op r) = own_imports (form_of op) + imports_of_parts r
 
+  -- how many imports the parts of a node have
   pub imports_of_parts : Parts Var Name → ℕ
   imports_of_parts end = 0
   imports_of_parts (kid b e r) = imports e + imports_of_parts r

@@ -15,6 +15,7 @@ abbrev pub named : List ℕ → Folder
 named [] = Unset
 named (b ∷ bs) = At (b ∷ bs)
 
+-- a folder or file below a folder, where the folder is known
 abbrev pub below : Folder → List ℕ → Folder
 below Unset rest = Unset
 below (At path) rest = At (path ++ rest)
@@ -32,6 +33,7 @@ entry_name d = codes "/1220" ++ encode_lower d.0
 
 -- ---- places
 
+-- the place of a file whose path is known, or nowhere, or untold
 abbrev pub in_folder : Folder → Source
 in_folder Unset = at.Nowhere
 in_folder (At path) = at.File path

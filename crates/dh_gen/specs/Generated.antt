@@ -38,6 +38,7 @@ abbrev pub number_at : Loc → Option ℕ
 number_at (locs.Here (name ∷ [])) = number_in name
 number_at _ = None
 
+-- what is found at the text of this number, or that nothing is there
 abbrev pub got_at : Option ℕ → Got
 got_at None = gots.Absent
 got_at (Some k) = gots.Found (record { bytes = text_of k; allow = None })

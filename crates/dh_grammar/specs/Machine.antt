@@ -77,6 +77,7 @@ pub data Shut (K : Sorts) : Type 0 where
   -- " .. ${ [ ]
   chunk : TextForm → K.chunks → Shut K
 
+-- a place on the stack: one that a token ends, or one that what follows ends
 pub data Frame (K : Sorts) : Type 0 where
   «open» : Open K → Frame K
   shut : Shut K → Frame K
@@ -132,9 +133,11 @@ pub data Wait (K : Sorts) : Type 0 where
   text_front : TextForm → Front K → Wait K
   text_piece : TextForm → K.chunks → Wait K
 
+-- the places that stand open, the innermost first
 abbrev pub Stack : Sorts → Type 0
 Stack K = List (Frame K)
 
+-- what the machine awaits: an operand, what may follow one, a token of a production, or nothing
 pub data State (K : Sorts) : Type 0 where
   need : Stack K → State K
   have : Stack K → Held K → State K
@@ -153,6 +156,7 @@ level somed = 14
 level mapped = 14
 level _ = 0
 
+-- the least level of a tree in the place of an open frame
 abbrev pub asks : {K : Sorts} → Open K → ℕ
 asks (left l o) = suc (level_of o)
 asks (applied f) = 15
@@ -162,10 +166,12 @@ asks mapped = 15
 asks (update x ks) = 1
 asks _ = 0
 
+-- the least level of a tree in a place that a token ends
 abbrev pub shut_asks : {K : Sorts} → Shut K → ℕ
 shut_asks first = 15
 shut_asks _ = 0
 
+-- how tightly the tree binds whose place a token ends
 abbrev pub shut_level : {K : Sorts} → Shut K → ℕ
 shut_level (domain b w) = 0
 shut_level condition = 0
@@ -182,6 +188,7 @@ least [] = 0
 least («open» f ∷ st) = asks f
 least (shut f ∷ st) = shut_asks f
 
+-- whether white space is needed before the place of an open frame
 abbrev pub open_gap : {K : Sorts} → Open K → Bool
 open_gap (left l o) = gap_after o
 open_gap (update x ks) = free
@@ -189,6 +196,7 @@ open_gap (body b w a) = free
 open_gap (target a) = free
 open_gap _ = apart
 
+-- whether white space is needed before a place that a token ends
 abbrev pub shut_gap : {K : Sorts} → Shut K → Bool
 shut_gap (domain b w) = apart
 shut_gap condition = apart
@@ -199,6 +207,7 @@ shut_gap (alternative_type c as' k) = apart
 shut_gap (field_type c fs k) = apart
 shut_gap _ = free
 
+-- whether white space is needed where an operand begins on a stack
 abbrev pub gap_on : {K : Sorts} → Stack K → Bool
 gap_on [] = free
 gap_on («open» f ∷ st) = open_gap f
@@ -214,10 +223,12 @@ open_depth mapped n = n
 open_depth (update x ks) n = n
 open_depth _ n = suc n
 
+-- how many productions `expr` stand open in a place that a token ends, where n stand open outside
 abbrev pub shut_depth : {K : Sorts} → Shut K → ℕ → ℕ
 shut_depth first n = n
 shut_depth _ n = suc n
 
+-- how many productions `expr` stand open in the topmost place of a stack
 abbrev pub depth_on : {K : Sorts} → Stack K → ℕ
 depth_on [] = 1
 depth_on («open» f ∷ st) = open_depth f (depth_on st)
@@ -237,6 +248,7 @@ name_of (kinds.Name x) = Some (plain x)
 name_of (kinds.Quoted x) = Some (quoted x)
 name_of _ = None
 
+-- the key that a token is, if it can be one
 abbrev pub key_of : TokenKind → Option Key
 key_of (kinds.Name x) = Some (name_key (plain x))
 key_of (kinds.Quoted x) = Some (name_key (quoted x))
@@ -245,10 +257,12 @@ key_of (kinds.Builtin b) = Some (builtin_key b)
 key_of (kinds.Keyword keywords.Some) = Some some_key
 key_of _ = None
 
+-- go on with a name, or stop where there is none
 abbrev pub with_name : {K : Sorts} → (NameToken → State K) → Option NameToken → State K
 with_name f None = stopped
 with_name f (Some w) = f w
 
+-- go on with a key, or stop where there is none
 abbrev pub with_key : {K : Sorts} → (Key → State K) → Option Key → State K
 with_key f None = stopped
 with_key f (Some k) = f k
@@ -257,6 +271,7 @@ with_key f (Some k) = f k
 abbrev pub fits : {K : Sorts} → ℕ → Stack K → State K → State K
 fits n st s = if nat_le (least st) n then s else stopped
 
+-- where a whole expression may stand
 abbrev pub expression : {K : Sorts} → Stack K → State K → State K
 expression st s = fits 0 st s
 
@@ -264,16 +279,19 @@ expression st s = fits 0 st s
 abbrev pub unless : {K : Sorts} → Bool → State K → State K
 unless b s = if b then stopped else s
 
+-- the only key, if there is just one
 abbrev pub one_of : Keys → Option Key
 one_of (one_key k) = Some k
 one_of (more_keys ks k) = None
 
+-- a record type can begin only where no entry came before and one key stands alone
 abbrev pub first_field : {K : Sorts} → Option (K.entries) → Keys → (Key → State K) → State K
 first_field None (one_key k) f = f k
 first_field _ _ f = stopped
 
 -- ---- what the tree of a token says beside its kind
 
+-- whether white space is needed before the token that is awaited
 abbrev pub wait_gap : {K : Sorts} → Wait K → Bool
 wait_gap (letting ls) = apart
 wait_gap (with_start x) = apart
@@ -296,17 +314,20 @@ extend_gap kinds.InterpolationClose = free
 extend_gap kinds.End = free
 extend_gap _ = apart
 
+-- whether white space is needed before this token in a state
 abbrev pub gap_at : {K : Sorts} → State K → TokenKind → Bool
 gap_at (need st) k = gap_on st
 gap_at (have st h) k = extend_gap k
 gap_at (wait w st) k = wait_gap w
 gap_at _ k = free
 
+-- how many expressions stand open at a token where an operand may begin
 abbrev pub begin_depth : {K : Sorts} → TokenKind → Stack K → ℕ
 begin_depth (kinds.Mark BracketClose) st = depth_out st
 begin_depth (kinds.Mark Comma) st = depth_out st
 begin_depth _ st = depth_on st
 
+-- how many expressions stand open at a token behind an operand
 abbrev pub extend_depth : {K : Sorts} → TokenKind → Stack K → ℕ
 extend_depth (kinds.Mark ParenClose) st = depth_out st
 extend_depth (kinds.Mark BracketClose) st = depth_out st
@@ -323,12 +344,14 @@ extend_depth kinds.InterpolationClose st = depth_out st
 extend_depth kinds.End st = depth_out st
 extend_depth _ st = depth_on st
 
+-- how many expressions stand open at this token in a state
 abbrev pub depth_at : {K : Sorts} → State K → TokenKind → ℕ
 depth_at (need st) k = begin_depth k st
 depth_at (have st h) k = extend_depth k st
 depth_at (wait w st) k = depth_on st
 depth_at _ k = 0
 
+-- a token with its depth and the gap that it needs in a state
 abbrev pub written : {K : Sorts} → State K → TokenKind → Written
 written s k = token (depth_at s k) (gap_at s k) k
 

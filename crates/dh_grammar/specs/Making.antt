@@ -19,6 +19,7 @@ pub record Sorts : Type 1 where
   pub entry : Type 0
   pub entries : Type 0
 
+-- what is made of each production of the grammar
 pub record Making (K : Sorts) : Type 0 where
   -- the level, and the labels so far
   pub binds : K.tree → ℕ
@@ -69,6 +70,7 @@ pub record Making (K : Sorts) : Type 0 where
   pub given : Keys → K.tree → K.entry
   pub add_entry : Option (K.entries) → K.entry → K.entries
 
+-- a function applied to what may be there
 abbrev pub option_map : {A B : Type 0} → (A → B) → Option A → Option B
 option_map f None = None
 option_map f (Some a) = Some (f a)

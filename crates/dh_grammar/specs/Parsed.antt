@@ -19,15 +19,18 @@ answered (refused n) = Err (faults.Syntax n)
 answered nested = Err faults.TooNested
 answered unfinished = Err faults.Memory
 
+-- the expression that tokens spell, or why there is none
 abbrev pub parsed_tokens : List Token → Result Term ParseFault
 parsed_tokens ts = answered (reading stubs (need []) ts)
 
+-- the answer to the tokens of a text, or to the fault that was met on the way to them
 abbrev pub parsed_lex : Result (List Token) LexFault → Result Term ParseFault
 parsed_lex (Err (Bad n)) = Err (faults.Syntax n)
 parsed_lex (Err (Wide n)) = Err (faults.Wide n)
 parsed_lex (Err (Out n)) = Err (faults.Out n)
 parsed_lex (Ok ts) = parsed_tokens ts
 
+-- the expression that bytes spell, or why there is none
 abbrev pub parsed : List ℕ → Result Term ParseFault
 parsed bytes =
     if nat_le (length bytes) most_bytes then (if is_utf8 bytes then parsed_lex (lex bytes) else Err (faults.NotUtf8 (utf8_valid_len bytes)))

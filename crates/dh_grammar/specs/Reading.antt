@@ -15,16 +15,19 @@ pub data Outcome (A : Type 0) : Type 0 where
   -- too many expressions stand open
   nested : Outcome A
 
+-- a function applied to what is accepted
 abbrev pub outcome_map : {A B : Type 0} → (A → B) → Outcome A → Outcome B
 outcome_map f (accepted a) = accepted (f a)
 outcome_map f unfinished = unfinished
 outcome_map f (refused n) = refused n
 outcome_map f nested = nested
 
+-- whether a state is not stopped
 abbrev pub runs_still : {K : Sorts} → State K → Bool
 runs_still stopped = false
 runs_still s = true
 
+-- the outcome where the tokens end
 abbrev pub outcome_of : {K : Sorts} → State K → Outcome (K.tree)
 outcome_of (done x) = accepted x
 outcome_of s = unfinished

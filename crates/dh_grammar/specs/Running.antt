@@ -6,6 +6,7 @@ use Rattle.dh_syntax.specs.Text.Yield.{Written}
 use Rattle.dh_grammar.specs.Machine.{stopped}
 use Rattle.dh_grammar.specs.Trees.{State, after, gap_at, written}
 
+-- a state that is not stopped
 abbrev pub IsRunning : State → Type 0
 IsRunning stopped = ⊥
 IsRunning s = ⊤
@@ -15,6 +16,7 @@ abbrev pub run : State → List Written → State
 run s [] = s
 run s (w ∷ ws) = run (after w.kind s) ws
 
+-- kinds of tokens read one after another
 abbrev pub runs : State → List TokenKind → State
 runs s [] = s
 runs s (k ∷ ks) = runs (after k s) ks
@@ -23,6 +25,7 @@ runs s (k ∷ ks) = runs (after k s) ks
 abbrev pub step : State → Token → State
 step s t = if not (gap_at s t.kind) || t.gap then after t.kind s else stopped
 
+-- tokens read one after another, each with the white space that it needs
 abbrev pub steps : State → List Token → State
 steps s [] = s
 steps s (t ∷ ts) = steps (step s t) ts

@@ -39,6 +39,7 @@ abbrev pub HasChunkPart : List ℕ → List ℕ → Type 0
 HasChunkPart stream part =
     (l : ChunkLine) × (after : List ℕ) × HasLine stream l (part ++ after) × (length part ≤ chunk_size l)
 
+-- the parts of a body as one
 abbrev pub joined : List (List ℕ) → List ℕ
 joined parts = flat_map (λ part. part) parts
 

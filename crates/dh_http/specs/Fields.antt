@@ -31,9 +31,11 @@ framed (coding ∷ []) [] = if is_chunked coding then Chunked else Unclear
 framed [] (size ∷ []) = if is_length size then Stated (digits_value 10 size) else Unclear
 framed _ _ = Unclear
 
+-- how a body stands in the stream, by the fields of its head
 abbrev pub framing : List Named → Framing
 framing fields = framed (values (codes "transfer-encoding") fields) (values (codes "content-length") fields)
 
+-- the value where there is just one
 abbrev pub only : List (List ℕ) → Option (List ℕ)
 only (value ∷ []) = Some value
 only _ = None

@@ -17,6 +17,7 @@ abbrev pub TakesBytes : Place → Place → List ℕ → Bool → Type 0
 TakesBytes old new bytes true = Took old new bytes
 TakesBytes old new bytes false = Went old new × WhereKnown old (λ stream. (rest : List ℕ) → stream ≢ bytes ++ rest)
 
+-- a chunk line with this size was read, or none is there
 abbrev pub TakesLine : Place → Place → Option ℕ → Type 0
 TakesLine old new (Some size) =
     (l : ChunkLine) × Took old new (print_chunk_line l) × IsChunkLine l × (length (print_chunk_line l) ≤ most_line)
@@ -24,6 +25,7 @@ TakesLine old new (Some size) =
 TakesLine old new None =
     Went old new × WhereKnown old (λ stream. (l : ChunkLine) (rest : List ℕ) → ¬ (HasLine stream l rest))
 
+-- a trailer was read, or none is there
 abbrev pub TakesTrailer : Place → Place → Bool → Type 0
 TakesTrailer old new true = Went old new × WhereKnown old HasTrailer
 TakesTrailer old new false = Went old new × WhereKnown old (λ stream. ¬ (HasTrailer stream))

@@ -18,12 +18,14 @@ pub record Says (head : Head) (h : ResponseHead) : Type 0 where
   pub framing : head.framing ≡ framing (fields_of h)
   pub allow : head.allow ≡ allowed (fields_of h)
 
+-- the window shows this head as a whole, no whole head yet, or one with too many fields
 abbrev pub FindsHead : List ℕ → Seen → Type 0
 FindsHead window (Whole head) =
     (h : ResponseHead) × (rest : List ℕ) × ReadsResponse window h rest × (head.len ≡ length (print_response h)) × Says head h
 FindsHead window Part = HasNoResponse window
 FindsHead window Other = ResponseOverflows most_fields window
 
+-- this head was read, or none is there
 abbrev pub TakesHead : Place → Place → Option Head → Type 0
 TakesHead old new (Some head) =
     (h : ResponseHead) × Took old new (print_response h) × IsResponseHead h × (length (print_response h) ≤ most_line)

@@ -17,6 +17,7 @@ pub record Place : Type 0 where
   pub faults : ℕ
   pub inbox : InboxState
 
+-- a reader stands where these say
 abbrev pub place : Option (List ℕ) → Option (List ℕ) → ℕ → ℕ → InboxState → Place
 place sent left receives faults inbox =
     record { sent = sent; left = left; receives = receives; faults = faults; inbox = inbox }

@@ -23,6 +23,7 @@ abbrev pub HasHead : List ℕ → ResponseHead → List ℕ → Type 0
 HasHead stream h rest =
     ReadsResponse stream h rest × (length (print_response h) ≤ most_line) × (length h.fields ≤ most_fields)
 
+-- the names and values of the fields of a head
 abbrev pub fields_of : ResponseHead → List Named
 fields_of h = map name_and_value h.fields
 

@@ -17,6 +17,7 @@ abbrev pub is_fetch_of : Loc → Event → Bool
 is_fetch_of l (Claim worker (Fetch m)) = loc_eq m l
 is_fetch_of l _ = false
 
+-- whether an event is a release
 abbrev pub is_release : Event → Bool
 is_release (Release serial) = true
 is_release _ = false

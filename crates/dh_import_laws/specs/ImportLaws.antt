@@ -26,12 +26,15 @@ use Rattle.dh_imports.specs.Walk.{Ask, walk, Walked, Ready, Turns, Needs}
 
 -- ---- the order of keys
 
+-- of two keys one comes before the other, or they are equal
 abbrev pub KeysTotal : Type 0
 KeysTotal = (j k : Key) → (key_le j k ≡ true) ⊎ (key_le k j ≡ true)
 
+-- a key that comes before one that comes before a third comes before that
 abbrev pub KeysTransitive : Type 0
 KeysTransitive = (i j k : Key) → key_le i j ≡ true → key_le j k ≡ true → key_le i k ≡ true
 
+-- keys that come before each other are equal
 abbrev pub KeysAntisymmetric : Type 0
 KeysAntisymmetric = (j k : Key) → key_le j k ≡ true → key_le k j ≡ true → j ≡ k
 
@@ -81,6 +84,7 @@ OutcomesAreResolved =
     (root : Term) (es : List Event) (k : Key) (o : Outcome) → Lawful root es
     → outcome_of (after_all root es) k ≡ Some o → Resolves (after_all root es).recorded k o
 
+-- a walk comes to an end, and needs no further key
 abbrev pub IsDecided : {X : Type 0} → Walked X → Type 0
 IsDecided (Needs y) = ⊥
 IsDecided _ = Unit {0}
@@ -123,6 +127,7 @@ IsUnrecorded s (Fetch l) = text_at s.recorded l ≡ None
 IsUnrecorded s (Look d) = look_at s.recorded d ≡ None
 IsUnrecorded s (Finish k) = outcome_of s k ≡ None
 
+-- what is in flight is not recorded yet
 abbrev pub InFlightUnrecorded : Type 0
 InFlightUnrecorded =
     (root : Term) (es : List Event) (n : ℕ) (t : Task) → Lawful root es
@@ -140,6 +145,7 @@ OutcomesStay =
     (root : Term) (es : List Event) (e : Event) (k : Key) (o : Outcome) → Lawful root (e ∷ es)
     → outcome_of (after_all root es) k ≡ Some o → outcome_of (after_all root (e ∷ es)) k ≡ Some o
 
+-- what the root comes to stays as it is, once it is decided
 abbrev pub RootStays : Type 0
 RootStays =
     (root : Term) (es : List Event) (e : Event) → Lawful root (e ∷ es) → IsDecided (root_walk (after_all root es))
@@ -175,6 +181,7 @@ TextsAreParsed =
     (root : Term) (es : List Event) (l : Loc) (t : Noted) → Lawful root es
     → text_at (after_all root es).recorded l ≡ Some t → IsParsed t
 
+-- each recorded look is good: where it has an entry, that is one of its digest
 abbrev pub EntriesAreGood : Type 0
 EntriesAreGood =
     (root : Term) (es : List Event) (d : Digest) (look : Seen) → Lawful root es

@@ -11,6 +11,7 @@ use Rattle.dh_syntax.specs.Bytes.Digests.{digest_of}
 use Rattle.dh_imports.specs.Outcomes.{may_go_on}
 use Rattle.dh_imports.specs.Walk.{Ask, Form, importing, choosing, form_of, Walked, Ready, Fails, Turns, Needs, walk, walk_key}
 
+-- whether an import takes the content of its location, as code or as text
 abbrev pub takes_content : Mode → Bool
 takes_content modes.Code = true
 takes_content modes.Text = true
@@ -28,10 +29,12 @@ goes_on choosing _ = false
 goes_on _ (Ready e) = true
 goes_on _ _ = false
 
+-- for an import the digest to write behind it, if the walk comes to it and finds a value; nothing for other nodes
 abbrev pub own_digest : Ask → Bool → Form → List (Option Digest)
 own_digest ask here (importing i) = (if here then digest_behind i (walk_key None ask (chained None i)) else None) ∷ []
 own_digest ask here _ = []
 
+-- for each import in an expression or the parts of a node, in their order, the digest to write behind it
 abbrev mutual
   -- for each import in an expression of the root, in the order of the nodes, the digest to write behind it; whether the walk comes here
   pub digests_behind : Ask → Bool → Term → List (Option Digest)

@@ -57,6 +57,7 @@ pub record IsKept (r : Record) (ask : Ask) (root : Term) (p : Digest × List ℕ
   pub bytes : p.1 ≡ enc (alpha value)
   pub small : length p.1 ≤ most_entry_bytes
 
+-- the bytes of the digests of cache entries
 abbrev pub digests_of : List (Digest × List ℕ) → List (List ℕ)
 digests_of [] = []
 digests_of (p ∷ ps) = (p.0).0 ∷ digests_of ps

@@ -45,14 +45,17 @@ pub data Item : Type 0 where
   -- the fault of its walk or of what is recorded for it
   Fault : Blame → Item
 
+-- the outcome of a key that is at fault itself for this reason
 abbrev pub own : Key → Why → Outcome
 own k w = Bad (record { at = Some k; why = w })
 
 -- ---- locations
 
+-- an alternative of the location type that holds a text
 abbrev pub texts_alternative : Name → Alt
 texts_alternative x = record { label = x; typed = true }
 
+-- the type `Text`
 abbrev pub text_type : Term
 text_type = form.builtin builtins.Text
 
@@ -63,6 +66,7 @@ location_type =
     (texts_alternative (codes "Environment") ∷ texts_alternative (codes "Local") ∷ record { label = codes "Missing"; typed = false } ∷ texts_alternative (codes "Remote") ∷ [])
     (text_type ∷ text_type ∷ text_type ∷ [])
 
+-- the value of an alternative of the location type with this text
 abbrev pub located : Name → List ℕ → Term
 located x t = form.app (form.field location_type x) (form.plain_text t)
 
@@ -76,12 +80,14 @@ location_value l = located (codes "Local") (loc_text l)
 
 -- ---- the step
 
+-- the outcome of an import as text: the text, if it is UTF-8 and not too large
 abbrev pub text_outcome : Key → List ℕ → Option (List ℕ) → Outcome
 text_outcome k bytes allow =
     if nat_lt most_bytes (length bytes) then own k (Parse parse.TooLarge)
     else if is_utf8 bytes then Good (form.plain_text bytes) (Fetched allow)
     else own k (Parse (parse.NotUtf8 (utf8_valid_len bytes)))
 
+-- the outcome of a key whose value must have this digest, if it names one
 abbrev pub compared : Key → Option Digest → Term → Origin → Outcome
 compared k None v o = Good v o
 compared k (Some d) v o = if digest_eq d (digest_of v) then Good v o else own k (Differs d (digest_of v))
@@ -92,6 +98,7 @@ abbrev pub by_normal : Option (List ℕ) → Answer Term → Option Outcome
 by_normal allow (Found f left) = Some (Good f (Fetched allow))
 by_normal allow _ = None
 
+-- the outcome of code by its type: its normal form, or the typing fault
 abbrev pub by_type : ℕ → Key → Term → Option (List ℕ) → Judgment Term → Option Outcome
 by_type n k e allow (Has t left) = by_normal allow (run (endless names) n Whole n e)
 by_type n k e allow (Ill path rule) = Some (own k (Typing (type.Ill (record { path = path; rule = rule_number rule }))))

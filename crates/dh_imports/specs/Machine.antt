@@ -15,6 +15,7 @@ use Rattle.dh_imports.specs.Walk.{Ask, Walked, walk, wants}
 
 -- ---- tasks
 
+-- the tasks of workers: to fetch the text of a location, to look up a digest, or to finish a key
 pub data Task : Type 0 where
   Fetch : Loc → Task
   Look : Digest → Task
@@ -25,6 +26,7 @@ abbrev pub IsAmong : {A : Type 0} → A → List A → Type 0
 IsAmong a [] = ⊥
 IsAmong a (b ∷ bs) = (b ≡ a) ⊎ IsAmong a bs
 
+-- the state of the table: the root, what was recorded, the outcomes, the tasks in flight, and the tasks drawn so far
 pub record State : Type 0 where
   pub root : Term
   pub recorded : Record
@@ -35,15 +37,19 @@ pub record State : Type 0 where
   -- the task of each serial drawn so far, the latest first
   pub drawn : List Task
 
+-- the state at the start: nothing is recorded and no task is drawn
 abbrev pub opening : Term → State
 opening root = record { root = root; recorded = nothing_recorded; outcomes = []; flights = []; drawn = [] }
 
+-- the outcome of a key in a state, where it has one
 abbrev pub outcome_of : State → Ask
 outcome_of s k = lookup key_eq s.outcomes k
 
+-- the stage of a key in a state
 abbrev pub stage_of : State → Key → Stage
 stage_of s k = stage s.recorded (outcome_of s) k
 
+-- the walk of the root in a state
 abbrev pub root_walk : State → Walked Term
 root_walk s = walk None (outcome_of s) s.root
 
@@ -54,6 +60,7 @@ leads_by ask k (Now i) = []
 leads_by ask k (Walks e allow) = wants (Some k) ask e
 leads_by ask k (Asks j) = if is_none (ask j) then j ∷ [] else []
 
+-- the keys that an undecided key leads to in a state
 abbrev pub leads_to : State → Key → List Key
 leads_to s k = leads_by (outcome_of s) k (plan s.recorded k)
 
@@ -75,9 +82,11 @@ pub data TaskOf (s : State) : Task → Type 0 where
   fetches : {k : Key} {l : Loc} → Wanted s k → stage_of s k ≡ Lacks (TextOf l) → TaskOf s (Fetch l)
   finishes : {k : Key} → Wanted s k → IsDue (stage_of s k) → TaskOf s (Finish k)
 
+-- a task is in flight under this serial
 abbrev pub InFlight : State → ℕ → Task → Type 0
 InFlight s serial t = lookup eq s.flights serial ≡ Some t
 
+-- a task is due and no worker has it in flight
 pub record IsOpen (s : State) (t : Task) : Type 0 where
   pub due : TaskOf s t
   pub free : (serial : ℕ) → ¬ InFlight s serial t
@@ -136,23 +145,29 @@ May (Finished serial k i limit o) s = IsInTime s serial (finished k i limit o) �
 May (Late serial news) s = ¬ IsInTime s serial news
 May (Cycled k) s = (s.flights ≡ []) × ((t : Task) → ¬ IsOpen s t) × LeastOfLoop s.recorded (outcome_of s) k
 
+-- the tasks in flight but for that of this serial
 abbrev pub without : ℕ → List (ℕ × Task) → List (ℕ × Task)
 without serial [] = []
 without serial (f ∷ fs) = if eq f.0 serial then without serial fs else f ∷ without serial fs
 
+-- the state where the task of this serial is no longer in flight
 abbrev pub landed : ℕ → State → State
 landed serial s = record s { flights = without serial s.flights }
 
+-- the record with one more text at a location
 abbrev pub with_text : Record → Loc → Noted → Record
 with_text r l text = record r { texts = (l, text) ∷ r.texts }
 
+-- the record with one more look at a digest
 abbrev pub with_look : Record → Digest → Seen → Record
 with_look r d look = record r { looks = (d, look) ∷ r.looks }
 
+-- the record with one more limit, if there is one
 abbrev pub with_limit : Record → Key → Option Why → Record
 with_limit r k None = r
 with_limit r k (Some w) = record r { limits = (k, w) ∷ r.limits }
 
+-- the state with one more outcome of a key
 abbrev pub with_outcome : State → Key → Outcome → State
 with_outcome s k o = record s { outcomes = (k, o) ∷ s.outcomes }
 
@@ -168,6 +183,7 @@ effect (Cycled k) s = with_outcome s k (Loop k)
 
 -- ---- histories, the latest step first
 
+-- the state after these steps, the latest first, from a root
 abbrev pub after_all : Term → List Event → State
 after_all root [] = opening root
 after_all root (e ∷ es) = effect e (after_all root es)

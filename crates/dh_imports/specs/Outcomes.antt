@@ -10,6 +10,7 @@ use Rattle.dh_imports.specs.declared.outcomes.Why.TheVariants.{Absent, Missing, 
 use Rattle.dh_syntax.specs.Expressions.Bridge.{term}
 use Rattle.dh_syntax.specs.Expressions.Tree.{Term}
 
+-- what comes of a key: its value and where that is from, a fault, or a loop
 pub data Outcome : Type 0 where
   Good : Term → Origin → Outcome
   -- a fault other than `Cycle`
@@ -17,6 +18,7 @@ pub data Outcome : Type 0 where
   -- the fault `Cycle`, blamed on the least key of the loop
   Loop : Key → Outcome
 
+-- the outcome of a key that is at fault, a loop for the fault `Cycle`
 abbrev pub of_blame : Option Key → Why → Outcome
 of_blame (Some j) Cycle = Loop j
 of_blame at why = Bad (record { at = at; why = why })

@@ -42,21 +42,26 @@ pub data Seen : Type 0 where
   Miss : Seen
   Failed : Seen
 
+-- what one run found outside: texts, cache entries, and the limits that decided keys
 pub record Record : Type 0 where
   pub texts : List (Loc × Noted)
   pub looks : List (Digest × Seen)
   -- the limit by which a key was decided
   pub limits : List (Key × Why)
 
+-- what was found at a location, if it was looked for
 abbrev pub text_at : Record → Loc → Option Noted
 text_at r l = lookup loc_eq r.texts l
 
+-- what was found under a digest, if it was looked for
 abbrev pub look_at : Record → Digest → Option Seen
 look_at r d = lookup digest_eq r.looks d
 
+-- the limit that decided a key, if one did
 abbrev pub limit_at : Record → Key → Option Why
 limit_at r k = lookup key_eq r.limits k
 
+-- a record of nothing
 abbrev pub nothing_recorded : Record
 nothing_recorded = record { texts = []; looks = []; limits = [] }
 

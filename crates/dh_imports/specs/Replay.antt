@@ -13,11 +13,13 @@ use Rattle.dh_imports.specs.Resolver.{is_in}
 use Rattle.dh_syntax.specs.Limits.{most_keys}
 use Rattle.dh_imports.specs.Walk.{Walked, Ready, Fails, Turns, Needs, keys_of}
 
+-- the kinds of tasks: to fetch, to look up, to finish
 pub data Kind : Type 0 where
   fetching : Kind
   looking : Kind
   finishing : Kind
 
+-- the kind of a task
 abbrev pub kind_of : Task → Kind
 kind_of (Fetch l) = fetching
 kind_of (Look d) = looking
@@ -33,6 +35,7 @@ pub data Step : Type 0 where
   Late : ℕ → Step
   Cycled : Key → Step
 
+-- a step as the history shows it, with the serial that a claim draws
 abbrev pub step_of : List Task → Event → Step
 step_of drawn (machine.Claim worker t) = Claim worker (kind_of t) (suc (length drawn))
 step_of drawn (machine.Release serial) = Release serial
@@ -47,6 +50,7 @@ abbrev pub steps : Term → List Event → List Step
 steps root [] = []
 steps root (e ∷ es) = steps root es ++ step_of (after_all root es).drawn e ∷ []
 
+-- the news that came too late in a step, if it did
 abbrev pub late_news : Event → List News
 late_news (machine.Late serial news) = news ∷ []
 late_news _ = []
@@ -73,14 +77,17 @@ abbrev pub with_bare : List Key → List Key
 with_bare [] = []
 with_bare (k ∷ ks) = k ∷ bare k ∷ with_bare ks
 
+-- the keys of the imports of a text at a location, where it parses
 abbrev pub keys_parsed : Loc → Result Term ParseFault → List Key
 keys_parsed l (Ok e) = keys_of (Some l) e
 keys_parsed l (Err f) = []
 
+-- the keys of the imports of what was found at a location
 abbrev pub keys_noted : Loc → Noted → List Key
 keys_noted l (Found bytes allow parsed) = keys_parsed l parsed
 keys_noted l _ = []
 
+-- the keys of the imports of all texts that were found
 abbrev pub keys_found : List (Loc × Noted) → List Key
 keys_found [] = []
 keys_found (t ∷ ts) = keys_noted t.0 t.1 ++ keys_found ts
@@ -89,6 +96,7 @@ keys_found (t ∷ ts) = keys_noted t.0 t.1 ++ keys_found ts
 abbrev pub keys : State → List Key
 keys s = with_bare (keys_of None s.root ++ keys_found s.recorded.texts)
 
+-- the keys, each once
 abbrev pub distinct : List Key → List Key
 distinct [] = []
 distinct (k ∷ ks) = if is_in k ks then distinct ks else k ∷ distinct ks
@@ -99,12 +107,14 @@ has_too_many s = nat_lt most_keys (length (distinct (keys s)))
 
 -- ---- the end of the root
 
+-- how the root ends: with a value, a fault, a loop, or too many keys
 pub data RootEnd : Type 0 where
   ready : Term → RootEnd
   bad : Blame → RootEnd
   looped : Key → RootEnd
   too_many : RootEnd
 
+-- how the root ends by its walk, if it has come to an end
 abbrev pub end_of : Walked Term → Option RootEnd
 end_of (Ready e) = Some (ready e)
 end_of (Fails b) = Some (bad b)

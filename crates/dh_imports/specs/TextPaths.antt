@@ -21,6 +21,7 @@ way_at k [] path = []
 way_at zero (way ∷ ways) path = way path
 way_at (suc k) (way ∷ ways) path = way_at k ways path
 
+-- the way into a node whose parts stand in the text as they are in the path
 abbrev pub way_on : List Way → Way
 way_on ways [] = []
 way_on ways (k ∷ path) = k ∷ way_at k ways path
@@ -31,6 +32,7 @@ way_into (importing i) ws ways path = []
 way_into choosing (l ∷ m ∷ []) (left ∷ right ∷ []) path = to_side l (left path) (right path)
 way_into form ws ways path = way_on ways path
 
+-- where a path in an expression, or in the parts of a node, leads in the text without its values
 abbrev mutual
   -- the path in the text of this key, or in the input, of the node to which a path leads in the text with its values
   pub text_path : Option Key → Ask → Term → Way

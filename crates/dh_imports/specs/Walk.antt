@@ -34,6 +34,7 @@ pub data Form : Type 0 where
   choosing : Form
   other : Form
 
+-- whether a node is an import, a choice between alternatives, or another
 abbrev pub form_of : Op → Form
 form_of (ops.Import i) = importing i
 form_of (ops.Bin bins.Fallback) = choosing
@@ -41,6 +42,7 @@ form_of _ = other
 
 -- ---- the walk
 
+-- what a walk comes to: each import has a value, a fault or a loop decides, or a key has no outcome yet
 pub data Walked (X : Type 0) : Type 0 where
   -- each import has a value: what is left with the values in their places
   Ready : X → Walked X
@@ -51,18 +53,21 @@ pub data Walked (X : Type 0) : Type 0 where
   -- the first key that has no outcome yet
   Needs : Key → Walked X
 
+-- what follows from the result of a walk, where it came to one
 abbrev pub and_then : {X Y : Type 0} → Walked X → (X → Walked Y) → Walked Y
 and_then (Ready x) next = next x
 and_then (Fails b) next = Fails b
 and_then (Turns j) next = Turns j
 and_then (Needs k) next = Needs k
 
+-- the walk of a choice: that of its right side where the left one has a fault that allows it
 abbrev pub or_else : Walked Term → Walked Term → Walked Term
 or_else (Fails b) w = if may_go_on b.why then w else Fails b
 or_else (Ready e) w = Ready e
 or_else (Turns j) w = Turns j
 or_else (Needs k) w = Needs k
 
+-- the walks of several parts, one after another, to the first that does not come to a value
 abbrev pub in_order : List (Walked Term) → Walked (List Term)
 in_order [] = Ready []
 in_order (w ∷ ws) = and_then w (λ e. and_then (in_order ws) (λ es. Ready (e ∷ es)))
@@ -79,9 +84,11 @@ by_outcome parent k (Some (Good v o)) = if allowed parent k o then Ready v else 
 by_outcome parent k (Some (Bad b)) = Fails b
 by_outcome parent k (Some (Loop j)) = Turns j
 
+-- whether the location and mode of a key may be imported from this parent
 abbrev pub is_sane : Option Key → Key → Bool
 is_sane parent k = sane (place parent) k.loc k.mode
 
+-- what the import of a key comes to, which is a fault if it is not sane
 abbrev pub walk_key : Option Key → Ask → Key → Walked Term
 walk_key parent ask k = if is_sane parent k then by_outcome parent k (ask k) else Fails (record { at = parent; why = Insane k.loc })
 
@@ -91,6 +98,7 @@ walk_node parent ask op r (importing i) ws = walk_key parent ask (chained (place
 walk_node parent ask op r choosing (l ∷ m ∷ []) = or_else l m
 walk_node parent ask op r _ ws = and_then (in_order ws) (λ es. Ready (Node op (replace_row r es)))
 
+-- the walk of an expression in the text of this key, or in the input, and the walks of its parts
 abbrev mutual
   -- the walk of an expression in the text of this key, or in the input
   pub walk : Option Key → Ask → Term → Walked Term
@@ -109,41 +117,50 @@ pub data Ending : Type 0 where
   Stops : Blame → Ending
   Circles : Ending
 
+-- the keys that a walk asks, in their order, and how it ends
 pub record Course : Type 0 where
   pub asked : List Key
   pub ending : Ending
 
+-- the course of one walk after another
 abbrev pub after : Course → Course → Course
 after c d = record { asked = c.asked ++ d.asked; ending = d.ending }
 
+-- the course of one walk and then another, which comes to it only where the first goes on
 abbrev pub then_by : Ending → Course → Course → Course
 then_by Goes c d = after c d
 then_by _ c d = c
 
+-- the course of a choice: the right side is walked where the fault of the left allows it
 abbrev pub else_by : Ending → Course → Course → Course
 else_by (Stops b) c d = if may_go_on b.why then after c d else c
 else_by _ c d = c
 
+-- the course of several walks, one after another, to the first that does not go on
 abbrev pub all_courses : List Course → Course
 all_courses [] = record { asked = []; ending = Goes }
 all_courses (c ∷ cs) = then_by c.ending c (all_courses cs)
 
+-- how a key ends a course by its outcome: a value that the parent may use, and no outcome, go on
 abbrev pub ending_by : Option Key → Key → Option Outcome → Ending
 ending_by parent k None = Goes
 ending_by parent k (Some (Good v o)) = if allowed parent k o then Goes else Stops (record { at = parent; why = Cors k.loc })
 ending_by parent k (Some (Bad b)) = Stops b
 ending_by parent k (Some (Loop j)) = Circles
 
+-- the course of the import of a key, which is asked only if it is sane
 abbrev pub course_key : Option Key → Ask → Key → Course
 course_key parent ask k =
     if is_sane parent k then record { asked = k ∷ []; ending = ending_by parent k (ask k) }
     else record { asked = []; ending = Stops (record { at = parent; why = Insane k.loc }) }
 
+-- the course of a node by its form and the courses of its parts
 abbrev pub course_node : Option Key → Ask → Form → List Course → Course
 course_node parent ask (importing i) cs = course_key parent ask (chained (place parent) i)
 course_node parent ask choosing (c ∷ d ∷ []) = else_by c.ending c d
 course_node parent ask _ cs = all_courses cs
 
+-- the courses of walks on which each key without an outcome turns out good and passes the cross-origin test
 abbrev mutual
   -- the course of a walk on which each key without an outcome turns out good and passes the cross-origin test
   pub course : Option Key → Ask → Term → Course
@@ -164,10 +181,12 @@ wants parent ask e = undecided ask (course parent ask e).asked
 
 -- ---- the keys of an expression
 
+-- the key of a node that is an import
 abbrev pub keys_of_form : Option Loc → Form → List Key
 keys_of_form at (importing i) = chained at i ∷ []
 keys_of_form at _ = []
 
+-- the keys of all imports of an expression, or of the parts of a node, in a text at this location
 abbrev mutual
   -- the keys of all imports of an expression in a text at this location
   pub keys_of : Option Loc → Term → List Key

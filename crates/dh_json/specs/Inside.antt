@@ -15,6 +15,7 @@ use Rattle.dh_json.specs.JsonValue.{Answer, Case, Whole, Elements, Fields, Part,
 use Rattle.dh_json.specs.declared.forms.Form.{Form}
 use Rattle.dh_json.specs.declared.forms.Form.TheVariants as forms
 
+-- how the value of a node comes about, by the form that the program shows
 abbrev pub case_shown : Form → Case
 case_shown forms.Null = Whole null
 case_shown (forms.Truth b) = Whole (boolean b)

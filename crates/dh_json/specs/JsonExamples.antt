@@ -8,15 +8,19 @@ use Rattle.dh_syntax.specs.Expressions.Forms.{app, bool, builtin, integer, lambd
 use Rattle.dh_syntax.specs.Expressions.Tree.{Node, Leaf, Term, Name}
 use Rattle.dh_json.specs.JsonValue.{json}
 
+-- the union type of these alternatives, with the types that they have
 abbrev union : List Alt → List Term → Term
 union alts ts = Node (ops.Union alts) (plain_row ts)
 
+-- the selection of this field
 abbrev field : Name → Term → Term
 field x u = Node (ops.Field x) (plain_row (u ∷ []))
 
+-- the record of these labels and values
 abbrev record_of : List Name → List Term → Term
 record_of xs es = Node (ops.Record xs) (plain_row es)
 
+-- the list of these elements
 abbrev list : List Term → Term
 list es = Node ops.List (plain_row es)
 

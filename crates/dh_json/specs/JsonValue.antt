@@ -25,6 +25,7 @@ pub data Case : Type 0 where
   -- it has none
   NoCase : Case
 
+-- a value that a node has without regard to its parts, or none
 abbrev pub whole : Option Data → Case
 whole None = NoCase
 whole (Some d) = Whole d
@@ -101,6 +102,7 @@ module _ {A B : Type 0} where
 abbrev pub Answer : Type 0
 Answer = Result Data (List ℕ)
 
+-- an answer whose value goes through a function
 abbrev pub answer_map : {A B : Type 0} → (A → B) → Result A (List ℕ) → Result B (List ℕ)
 answer_map f (Ok a) = Ok (f a)
 answer_map f (Err p) = Err p
@@ -123,11 +125,13 @@ members i (x ∷ xs) ms [] = Ok ms
 members i (x ∷ xs) ms (Ok d ∷ as') = members (suc i) xs (put x d ms) as'
 members i (x ∷ xs) ms (Err p ∷ as') = Err (i ∷ p)
 
+-- the answer of the part of this number, reached through that part
 abbrev pub part_at : ℕ → ℕ → List Answer → Answer
 part_at i n [] = Err []
 part_at i zero (a ∷ as') = from_part i a
 part_at i (suc n) (a ∷ as') = part_at i n as'
 
+-- the value of a node by how it comes about and by those of its parts
 abbrev pub by_case : Case → List Answer → Answer
 by_case (Whole d) as' = Ok d
 by_case Elements as' = answer_map array (elements 0 as')
@@ -141,6 +145,7 @@ abbrev mutual
   json (Leaf a) = Err []
   json (Node op r) = by_case (case_of op r) (jsons r)
 
+  -- the JSON values of the parts of a node
   pub jsons : {A B : Type 0} → Row A B → List Answer
   jsons end = []
   jsons (kid b e r) = json e ∷ jsons r

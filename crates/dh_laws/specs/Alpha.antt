@@ -11,6 +11,7 @@ use Rattle.dh_syntax.specs.Expressions.Tree.{Row, Leaf, Node, Name, Var, Term}
 abbrev pub AlphaVariable : Type 0
 AlphaVariable = (v : Var) → alpha (Leaf v) ≡ Leaf v
 
+-- The α-normal form of a node is the node over the α-normal forms of its parts.
 abbrev pub AlphaNode : Type 0
 AlphaNode = (op : Op) (r : Row Var Name) → alpha (Node op r) ≡ Node op (alpha_row alpha r)
 
@@ -42,9 +43,11 @@ FreeAfterAlpha = (x : Name) (n : ℕ) (e : Term) → is_free x n (alpha e) ≡ i
 abbrev pub SameReflexive : Type 0
 SameReflexive = (e : Term) → IsSame e e
 
+-- Sameness holds both ways.
 abbrev pub SameSymmetric : Type 0
 SameSymmetric = (e f : Term) → IsSame e f → IsSame f e
 
+-- Two that are the same as a third are the same.
 abbrev pub SameTransitive : Type 0
 SameTransitive = (e f g : Term) → IsSame e f → IsSame f g → IsSame e g
 

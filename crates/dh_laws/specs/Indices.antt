@@ -11,6 +11,7 @@ use Rattle.dh_laws.specs.Substituting.{put}
 abbrev pub IndicesAtFirst : Type 0
 IndicesAtFirst = (l : ℕ) (ys : List Name) (e : Term) → IndicesBelow l e → FreeIndicesBelow l ys e
 
+-- Where free indices are below a limit, all indices are below that limit and the nesting.
 abbrev pub IndicesAtLast : Type 0
 IndicesAtLast = (l : ℕ) (e : Term) → FreeIndicesBelow l [] e → IndicesBelow (nesting e + l) e
 

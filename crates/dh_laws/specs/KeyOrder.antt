@@ -7,6 +7,7 @@ use Rattle.dh_syntax.specs.Imports.Keys.{key_le}
 abbrev pub KeysTotal : Type 0
 KeysTotal = (j k : Key) → (key_le j k ≡ true) ⊎ (key_le k j ≡ true)
 
+-- a key that comes before one that comes before a third comes before that
 abbrev pub KeysTransitive : Type 0
 KeysTransitive = (i j k : Key) → key_le i j ≡ true → key_le j k ≡ true → key_le i k ≡ true
 

@@ -6,6 +6,7 @@ use Rattle.dh_syntax.specs.Expressions.Order.{before}
 abbrev pub Irreflexive : Type 0
 Irreflexive = (x : List ℕ) → before x x ≡ false
 
+-- a label that comes before one that comes before a third comes before that
 abbrev pub Transitive : Type 0
 Transitive = (x y z : List ℕ) → before x y ≡ true → before y z ≡ true → before x z ≡ true
 

@@ -10,6 +10,7 @@ use Rattle.dh_laws.specs.Substituting.{put}
 abbrev pub ReadingBack : Type 0
 ReadingBack = (e : Term) → from_core (to_core e) ≡ e
 
+-- Below any binders, reading back the nameless form gives the expression.
 abbrev pub ReadingBackBelow : Type 0
 ReadingBackBelow = (ys : List Name) (e : Term) → term_below ys (core_below ys e) ≡ e
 

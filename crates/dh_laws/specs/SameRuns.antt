@@ -36,6 +36,7 @@ SamePlainAnswers =
 abbrev pub SameNormalForms : Type 0
 SameNormalForms = (e f d : Term) → IsSame e f → HasNormalForm names e d → (g : Term) × HasNormalForm names f g × IsSame d g
 
+-- Expressions that are the same are equivalent, where one has a normal form.
 abbrev pub SameIsEquivalent : Type 0
 SameIsEquivalent = (e f d : Term) → IsSame e f → HasNormalForm names e d → AreEquivalent names e f
 
@@ -43,5 +44,6 @@ SameIsEquivalent = (e f d : Term) → IsSame e f → HasNormalForm names e d →
 abbrev pub SameWholeCost : Type 0
 SameWholeCost = (e f : Term) (n : ℕ) → IsSame e f → HasWholeCost names e n → HasWholeCost names f n
 
+-- Expressions that are the same have the same costs of a plain run.
 abbrev pub SameCost : Type 0
 SameCost = (e f : Term) (n : ℕ) → IsSame e f → HasCost names e n → HasCost names f n

@@ -9,11 +9,14 @@ use Rattle.dh_syntax.specs.Normalising.Steps.{Reaches}
 abbrev pub ReachesNormalForm : {T : Type 0} → Lang T → Type 0
 ReachesNormalForm {T = T} L = (e f : T) → HasNormalForm L e f → Reaches L e f
 
+-- Steps lead each expression that has a normal form to it.
 abbrev pub NamedReach : Type 0
 NamedReach = ReachesNormalForm names
 
+-- Steps lead each nameless expression that has a normal form to it.
 abbrev pub CoreReach : Type 0
 CoreReach = ReachesNormalForm cores
 
+-- Steps lead each form without any names that has a normal form to it.
 abbrev pub BareReach : Type 0
 BareReach = ReachesNormalForm bares

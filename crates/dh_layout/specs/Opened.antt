@@ -26,6 +26,7 @@ tight m p = if nat_lt p.level m then suc p.open' else p.open'
 abbrev pub before_colon : Sized → ℕ
 before_colon p = if p.bare then suc p.open' else tight 1 p
 
+-- how many expressions are opened at most in parts that need no brackets
 abbrev pub all_loose : List Sized → ℕ
 all_loose [] = 0
 all_loose (p ∷ ps) = max (loose p) (all_loose ps)
@@ -35,6 +36,7 @@ abbrev pub function_opened : Option Name → Sized → Sized → ℕ
 function_opened None a b = max (loose a) (loose b)
 function_opened (Some x) a b = if bytes_eq x (codes "_") then max (tight 1 a) (loose b) else max (loose a) (loose b)
 
+-- how many expressions a node opens at most, by its operator and its parts
 abbrev pub node_opened : Op → List Sized → ℕ
 node_opened ops.Pi (a ∷ b ∷ []) = function_opened b.binder a b
 node_opened ops.App (f ∷ a ∷ []) = max (tight 14 f) (tight 15 a)
@@ -51,6 +53,7 @@ node_opened (ops.ToMap true) (t ∷ r ∷ []) = max (tight 15 t) (loose r)
 node_opened (ops.With path) (e ∷ v ∷ []) = max (tight 15 e) (tight 1 v)
 node_opened op ps = all_loose ps
 
+-- how many more expressions stand open at the deepest token of printed text, of an expression or its parts
 abbrev mutual
   -- how many more expressions are open at the deepest token of its printed text than before it
   pub opened : Term → ℕ

@@ -2,6 +2,7 @@
 use Rattle.std.specs.Prelude.{Option, Some, None}
 use Rattle.dh_grammar.specs.Making.{Sorts}
 
+-- what each kind of part that a builder makes stands for
 pub record Views (Tree Note Lets Chunks Items Alternatives Fields Entry Entries : Type 0) (K : Sorts) : Type 0 where
   pub tree : Tree → K.tree
   pub note : Note → K.note

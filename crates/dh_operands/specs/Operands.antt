@@ -22,6 +22,7 @@ note_of a = option_map part_of a
 abbrev pub chunks_of : Chunks → KeptTexts
 chunks_of cs = record { pieces = cs.pieces; interpolations = map part_of cs.interpolations }
 
+-- the elements of a list of the program
 abbrev pub items_of : Items → List (stubs.Part)
 items_of is = map part_of is.parts
 
@@ -29,8 +30,10 @@ items_of is = map part_of is.parts
 abbrev pub operand_of : Operand → Kept
 operand_of x = record { part = part_of x.part; level = x.level }
 
+-- a binding of the program: its name, its annotation and its value
 abbrev pub binding_of : Binding → KeptBinding
 binding_of b = record { name = b.name; annotation = note_of b.annotation; value = part_of b.value }
 
+-- the bindings of a `let` of the program
 abbrev pub lets_of : Lets → List KeptBinding
 lets_of ls = map binding_of ls.bindings

@@ -13,6 +13,7 @@ use Rattle.dh_operands.specs.declared.rows.Fields.{Fields}
 abbrev pub alternative_rows : List (Name × Option Part) → List (Name × Option (stubs.Part))
 alternative_rows as' = map (λ a. (a.0, note_of a.1)) as'
 
+-- the alternatives of a union of the program, by their labels
 abbrev pub alternatives_of : Alternatives → List (Name × Option (stubs.Part))
 alternatives_of as' = alternative_rows as'.by_label
 
@@ -20,11 +21,14 @@ alternatives_of as' = alternative_rows as'.by_label
 abbrev pub rows_of : List (Name × Part) → List (Name × stubs.Part)
 rows_of rs = map (λ r. (r.0, part_of r.1)) rs
 
+-- the fields of a record type of the program, by their labels
 abbrev pub fields_of : Fields → List (Name × stubs.Part)
 fields_of fs = rows_of fs.rows
 
+-- the label and the value of an entry of the program
 abbrev pub entry_of : Entry → Name × stubs.Part
 entry_of e = (e.label, part_of e.value)
 
+-- the entries of a record of the program, by their labels
 abbrev pub entries_of : Entries → List (Name × stubs.Part)
 entries_of es = rows_of es.rows

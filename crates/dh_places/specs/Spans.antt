@@ -10,6 +10,7 @@ abbrev pub row : List Spans → Spans
 row [] = no_spans
 row (s ∷ ss) = joined s (row ss)
 
+-- the stretch of a node, by those of its parts
 abbrev pub span_step : Span-F Spans → Spans
 span_step s = span s.from s.to (row s.parts) no_spans
 
@@ -17,6 +18,7 @@ span_step s = span s.from s.to (row s.parts) no_spans
 unfoldable pub span_of : Span → Spans
 span_of = fold-Span Spans span_step
 
+-- the stretches of nodes, one by one
 abbrev pub each : List Span → List Spans
 each [] = []
 each (s ∷ ss) = span_of s ∷ each ss

@@ -9,6 +9,7 @@ use Rattle.dh_ports.specs.declared.worlds.Got.TheVariants.{Found, Absent, Broken
 abbrev pub Tells : {A : Type 0} → Option A → A → Type 0
 Tells o x = o ≡ option_map (λ _. x) o
 
+-- how many bytes were found, and zero where nothing was
 abbrev pub found_length : Got → ℕ
 found_length (Found f) = length f.bytes
 found_length Absent = 0

@@ -29,5 +29,6 @@ AreTold told contents = (l : Loc) → Tells (told l) (listed contents l)
 abbrev pub AreShelved : (Digest → Option (Option (List ℕ))) → List CacheEntry → Type 0
 AreShelved shelved entries = (d : Digest) → Tells (option_map shown (shelved d)) (listed_entry entries d)
 
+-- the digest and the bytes of each entry
 abbrev pub pairs_of : List CacheEntry → List (Digest × List ℕ)
 pairs_of entries = map (λ e. (e.digest, e.bytes)) entries

@@ -6,12 +6,15 @@ use Rattle.dh_ports.specs.declared.mem_desks.CacheEntry.{CacheEntry}
 use Rattle.dh_ports.specs.declared.mem_desks.Content.{Content}
 use Rattle.dh_ports.specs.declared.mem_desks.MemDesk.{MemDesk}
 
+-- what is found outside, by the desk
 abbrev pub contents_of : {W : _} {world : _} → MemDesk W world → List Content
 contents_of d = d.contents
 
+-- the entries that the cache of the desk has
 abbrev pub cache_of : {W : _} {world : _} → MemDesk W world → List CacheEntry
 cache_of d = d.cache
 
+-- the entries that were kept with the desk
 abbrev pub kept_of : {W : _} {world : _} → MemDesk W world → List CacheEntry
 kept_of d = d.kept
 
@@ -19,9 +22,11 @@ kept_of d = d.kept
 abbrev pub fetches_of : {W : _} {world : _} → MemDesk W world → Calls
 fetches_of d = d.fetches
 
+-- the looks into the cache that were made, and which of them fail
 abbrev pub looks_of : {W : _} {world : _} → MemDesk W world → Calls
 looks_of d = d.looks
 
+-- the entries that were to be kept, and which of these calls fail
 abbrev pub keeps_of : {W : _} {world : _} → MemDesk W world → Calls
 keeps_of d = d.keeps
 

@@ -6,6 +6,7 @@ use Rattle.dh_syntax.specs.declared.tokens.TokenKind.TheVariants as kinds
 use Rattle.dh_reader.specs.declared.closing.closings.Closing.{Closing}
 use Rattle.dh_reader.specs.declared.closing.closings.Closing.TheVariants as closings
 
+-- the kind of the token that ends a place
 abbrev pub closing_kind : Closing → TokenKind
 closing_kind closings.Paren = kinds.Mark marks.ParenClose
 closing_kind closings.Bracket = kinds.Mark marks.BracketClose

@@ -95,6 +95,7 @@ AreShelved shelved looks = All (λ (l : Look). IsShelved l.digest (shelved l.dig
 
 -- ---- outcomes
 
+-- the news is the outcome of a finished key
 abbrev pub BringsOutcome : News → Type 0
 BringsOutcome (news.Finished done) = ⊤
 BringsOutcome (news.Fetched l got scan) = ⊥
@@ -102,10 +103,12 @@ BringsOutcome (news.Looked d look) = ⊥
 
 -- ---- news
 
+-- the limit that an outcome is, where it is said to be one
 abbrev pub limit_by : Bool → program.Outcome → Option Why
 limit_by false o = None
 limit_by true o = Some (why_of (Some o))
 
+-- the news as the machine takes it
 abbrev pub news_of : News → machine.News
 news_of (news.Fetched l got scan) = machine.fetched l (noted_by got (parsed_by scan))
 news_of (news.Looked d look) = machine.looked d (seen_by look)
@@ -113,14 +116,17 @@ news_of (news.Finished d) = machine.finished d.item.key (stage_of_item d.item) (
 
 -- ---- failures of devices
 
+-- whether the device failed at a text
 abbrev pub has_failed : found.Noted → Bool
 has_failed found.Failed = true
 has_failed _ = false
 
+-- whether the device failed at a look into the cache
 abbrev pub is_failed : found.Seen → Bool
 is_failed found.Failed = true
 is_failed _ = false
 
+-- whether the news is a text or a look at which the device failed
 abbrev pub brings_failure : machine.News → Bool
 brings_failure (machine.fetched l text) = has_failed text
 brings_failure (machine.looked d look) = is_failed look

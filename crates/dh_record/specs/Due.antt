@@ -47,6 +47,7 @@ IsSpelled _ = Unit {0}
 abbrev pub AreSpelled : List Text → Type 0
 AreSpelled texts = (l : Loc) (t : found.Noted) → lookup loc_eq (reverse (map text_of texts)) l ≡ Some t → IsSpelled t
 
+-- the term of a text that was read, or the fault of its parse
 abbrev pub term_read : Result Scan ParseFault → Result Term ParseFault
 term_read (Ok s) = Ok (term s.expr)
 term_read (Err f) = Err f

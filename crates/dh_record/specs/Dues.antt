@@ -87,12 +87,14 @@ IsFitPlan (plans.Ask n) = Unit {0}
 
 -- ---- the stage of a key
 
+-- the stage of a key, as the program keeps it: its task is due, or it waits for the key of a number
 abbrev pub IsStage : List Row → Key → Stage → program.Stage → Type 0
 IsStage rows k s stages.Fetch = s ≡ Lacks (TextOf k.loc)
 IsStage rows k s stages.Look = (d : Digest) × (k.digest ≡ Some d) × (s ≡ Lacks (LookOf d))
 IsStage rows k s (stages.Finish d) = IsDueOn rows k s d
 IsStage rows k s (stages.Wait n) = (y : Key) × (s ≡ Waits y) × (number_of rows y ≡ Some n)
 
+-- what is due at the stage, if anything, may be worked on
 abbrev pub IsFitStage : program.Stage → Type 0
 IsFitStage stages.Fetch = Unit {0}
 IsFitStage stages.Look = Unit {0}

@@ -12,9 +12,11 @@ use Rattle.dh_demand.specs.Scans.{IsEdge}
 use Rattle.dh_record.specs.declared.rows.recorded.Entrant.{Entrant}
 use Rattle.dh_record.specs.Rows.{nobody, rows_of}
 
+-- the key of an entrant
 abbrev pub key_of_entrant : Entrant → Key
 key_of_entrant e = e.key
 
+-- the keys of these entrants, in their order
 abbrev pub keys_in : List Entrant → List Key
 keys_in es = map key_of_entrant es
 
@@ -26,6 +28,7 @@ with_key ks k = if is_in k ks then ks else ks ++ k ∷ []
 abbrev pub entered : List Key → Key → List Key
 entered ks k = with_key (with_key ks (bare k)) k
 
+-- the keys with each of the others entered in turn, itself and without its digest
 abbrev pub entered_all : List Key → List Key → List Key
 entered_all ks [] = ks
 entered_all ks (j ∷ js) = entered_all (entered ks j) js
@@ -35,6 +38,7 @@ pub record IsListed (rows : List Row) (e : Entrant) : Type 0 where
   pub text_is : e.text ≡ loc_text e.key.loc
   pub bare_is : number_of rows (bare e.key) ≡ Some e.unfrozen
 
+-- the entrant is undecided and has its own key beside it
 pub record IsNew (e : Entrant) : Type 0 where
   pub undecided : e.outcome ≡ None
   pub own_is : e.own ≡ Some e.key

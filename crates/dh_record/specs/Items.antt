@@ -20,6 +20,7 @@ abbrev pub by_fault : Option Key → Why → Stage
 by_fault (Some j) Cycle = Meets j
 by_fault at why = Has (last.Fault (record { at = at; why = why }))
 
+-- the stage at which a last step is due on this body, of a text with these allowed origins
 abbrev pub by_body : Option (List ℕ) → Body → Stage
 by_body allow (body.Code e) = Has (last.Code (term e) allow)
 by_body allow (body.Text bytes) = Has (last.Text bytes allow)

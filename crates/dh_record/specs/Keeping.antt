@@ -49,6 +49,7 @@ pub record IsFreshAt (keys : List Entrant) (looks : List Look) (marks : List Boo
   pub valued : (slice_index_or keys n nobody).outcome ≡ Some (variants.Good value origin)
   pub unseen : HasNoEntry (record_by [] looks) d
 
+-- an entrant by the digest of its key
 abbrev pub digest_of_entrant : Entrant → Rank
 digest_of_entrant e = digest_rank e.key.digest ∷ []
 

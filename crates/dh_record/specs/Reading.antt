@@ -22,9 +22,11 @@ use Rattle.dh_record.specs.declared.stage.reaches.Reach.TheVariants as reaches
 use Rattle.dh_record.specs.Dues.{IsDueOn}
 use Rattle.dh_record.specs.Rows.{noted_by, scanned, seen_by, text_of, look_of}
 
+-- what was found at the location of a recorded text
 abbrev pub noted_of : Text → found.Noted
 noted_of t = noted_by t.got (scanned t.read)
 
+-- what was seen at a recorded look into the cache
 abbrev pub seen_of : Look → found.Seen
 seen_of l = seen_by l.look
 
@@ -38,9 +40,11 @@ IsScan rows l None = Unit {0}
 IsScan rows l (Some (Ok s)) = Fits (Some l) rows (term s.expr) s.edges
 IsScan rows l (Some (Err f)) = Unit {0}
 
+-- the edges of a recorded text fit its imports
 abbrev pub IsRead : List Row → Text → Type 0
 IsRead rows t = IsScan rows t.loc t.read
 
+-- the recorded text is of this location, and its edges fit its imports
 pub record IsReadAt (rows : List Row) (l : Loc) (t : Text) : Type 0 where
   pub read : IsRead rows t
   pub loc_is : t.loc ≡ l
@@ -54,6 +58,7 @@ pub record IsWalk (rows : List Row) (k : Key) (e : Term) (allow : Option (List �
   pub fits : Fits (Some k.loc) rows e s.edges
   pub text_is : text_key (Some k.loc) ≡ Some k
 
+-- the program's plan for a key is that of the resolver, with keys by their numbers
 abbrev pub IsPlan : List Row → Key → resolver.Plan → Plan → Type 0
 IsPlan rows k (Unknown (TextOf l)) plans.Fetch = l ≡ k.loc
 IsPlan rows k (Unknown (LookOf d)) plans.Look = k.digest ≡ Some d

@@ -16,6 +16,7 @@ Rank = List (List ℕ)
 abbrev pub rank_of : Key → Rank
 rank_of k = (mode_code k.mode ∷ []) ∷ digest_rank k.digest ∷ loc_rank k.loc
 
+-- an entrant by its key
 abbrev pub rank_of_entrant : Entrant → Rank
 rank_of_entrant e = rank_of e.key
 
@@ -31,6 +32,7 @@ rank_of_look l = l.digest.0 ∷ []
 abbrev pub rank_at : List Rank → ℕ → Rank
 rank_at ranks n = slice_index_or ranks n []
 
+-- the thing of this number comes before this rank
 abbrev pub IsBelow : List Rank → Rank → ℕ → Type 0
 IsBelow ranks x n = texts_before (rank_at ranks n) x ≡ true
 

@@ -8,6 +8,7 @@ use Rattle.dh_script.specs.declared.faults.ScriptFault.TheVariants as faults
 use Rattle.dh_syntax.specs.Limits.{most_bytes}
 use Rattle.dh_syntax.specs.Text.Spelling.{IsText}
 
+-- the line that tells why bytes are no script
 abbrev pub fault_line : ScriptFault → List ℕ
 fault_line faults.TooLarge = codes "larger than 1048576 bytes"
 fault_line (faults.NotUtf8 at) = codes "not UTF-8 at " ++ decimal at

@@ -12,9 +12,11 @@ order_of (orders.Set l bytes) = scripts.Set l bytes
 order_of (orders.Drop l) = scripts.Drop l
 order_of (orders.Ask l) = scripts.Ask l
 
+-- the orders of the definition, one for each order that was read
 abbrev pub orders_of : List Order → List scripts.Order
 orders_of os = map order_of os
 
+-- the location that an order sets, drops or asks for
 abbrev pub location_of : Order → Loc
 location_of (orders.Set l bytes) = l
 location_of (orders.Drop l) = l

@@ -41,9 +41,11 @@ use Rattle.dh_command.specs.declared.verbs.Verb.TheVariants as verb
 abbrev pub import_of : Loc → Import
 import_of l = record { loc = l; mode = modes.Code; digest = None }
 
+-- the expression that imports a location as code, without a digest
 abbrev pub root_of : Loc → Term
 root_of l = Node (ops.Import (import_of l)) end
 
+-- the key of the import of a location as code, made canonical
 abbrev pub root_key : Loc → Key
 root_key l = chained None (import_of l)
 

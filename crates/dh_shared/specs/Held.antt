@@ -17,6 +17,7 @@ pub record Held : Type 0 where
   pub overs : ℕ
   pub returns : ℕ
 
+-- so many parts of each ledger, with nothing counted yet
 abbrev pub none_held : ℕ → Held
 none_held parts = record { parts = parts; claims = 0; kept = 0; releases = 0; lates = 0; fetches = 0; failed = 0; overs = 0; returns = 0 }
 
@@ -42,6 +43,7 @@ with_claim h fetch = record h { claims = h.claims + 1; fetches = h.fetches + fet
 abbrev pub with_kept : Held → ℕ → Held
 with_kept h failed = record h { kept = h.kept + 1; failed = h.failed + failed }
 
+-- one more release
 abbrev pub with_release : Held → Held
 with_release h = record h { releases = h.releases + 1 }
 
@@ -49,9 +51,11 @@ with_release h = record h { releases = h.releases + 1 }
 abbrev pub with_return : Held → Held
 with_return h = record h { returns = h.returns + 1 }
 
+-- one more delivery that came late
 abbrev pub with_late : Held → Held
 with_late h = record h { lates = h.lates + 1 }
 
+-- one more claim that found the run over
 abbrev pub with_over : Held → Held
 with_over h = record h { overs = h.overs + 1 }
 

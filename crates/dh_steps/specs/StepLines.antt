@@ -17,6 +17,7 @@ no_rule_line n = codes "no rule at step " ++ decimal n
 abbrev pub grown_line : ℕ → List ℕ
 grown_line n = codes "grown too large at step " ++ decimal n
 
+-- the line of a reason for which steps are not made
 abbrev pub step_fault_line : StepFault → List ℕ
 step_fault_line (fault.Outside place) = outside_line place
 step_fault_line (fault.NoRule n) = no_rule_line n

@@ -19,9 +19,11 @@ pub record Output : Type 0 where
   pub faults_before : ℕ
   pub faults_after : ℕ
 
+-- an output with this written before and after, where known, and these counts of failed writes
 abbrev pub output : Option (List ℕ) → Option (List ℕ) → ℕ → ℕ → Output
 output before after faults_before faults_after = record { before = before; after = after; faults_before = faults_before; faults_after = faults_after }
 
+-- an input with this left before and after, where known, and these counts of failed reads
 abbrev pub reading : Option (List ℕ) → Option (List ℕ) → ℕ → ℕ → Input
 reading before after faults_before faults_after = record { before = before; after = after; faults_before = faults_before; faults_after = faults_after }
 

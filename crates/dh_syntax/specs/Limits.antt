@@ -42,6 +42,7 @@ most_elements = 1_048_576
 abbrev pub most_height : ℕ
 most_height = 1_048_576
 
+-- the nesting of what a run reaches, at most
 abbrev pub most_reached : ℕ
 most_reached = 1000
 
@@ -69,5 +70,6 @@ most_entry_bytes = 16_777_216
 abbrev pub most_workers : ℕ
 most_workers = 64
 
+-- the workers that resolve imports where the words ask for none
 abbrev pub default_workers : ℕ
 default_workers = 4

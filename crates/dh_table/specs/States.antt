@@ -17,6 +17,7 @@ use Rattle.dh_table.specs.Shown.{Shown}
 use Rattle.dh_record.specs.Rows.{key_named, limit_of, look_of, outcome_of_number, task_by, text_of}
 use Rattle.dh_record.specs.Brought.{news_of}
 
+-- the task of a job, with the key of its number
 abbrev pub task_of : List Entrant → Job → Task
 task_of ks j = task_by j.kind (key_named ks j.key)
 
@@ -24,9 +25,11 @@ task_of ks j = task_by j.kind (key_named ks j.key)
 abbrev pub IsFrozenLook : List Entrant → Job → Type 0
 IsFrozenLook ks j = j.kind ≡ kinds.Look → IsSome (key_named ks j.key).digest
 
+-- the serial of a flight, with its task
 abbrev pub flight_of : List Entrant → Flight → ℕ × Task
 flight_of ks f = (f.serial, task_of ks f.job)
 
+-- the texts, looks and limits that a table has recorded, the last first
 abbrev pub record_of : Shown → Record
 record_of t = record { texts = reverse (map text_of t.texts); looks = reverse (map look_of t.looks); limits = reverse (map (limit_of t.keys) t.limited) }
 
@@ -40,6 +43,7 @@ state_of t = record {
   drawn = reverse (map (task_of t.keys) t.drawn);
 }
 
+-- the kind of a task, as the machine's history has it
 abbrev pub kind_by : Kind → replay.Kind
 kind_by kinds.Fetch = replay.fetching
 kind_by kinds.Look = replay.looking

@@ -39,6 +39,7 @@ Pair = Digest × List ℕ
 abbrev pub Telling : Type 0
 Telling = Loc → Option Got
 
+-- what a world tells of the entry under each digest: nothing, that there is none, or its bytes
 abbrev pub Shelving : Type 0
 Shelving = Digest → Option (Option (List ℕ))
 
@@ -54,6 +55,7 @@ pub record Outside : Type 0 where
   pub filed_before : Option (List Pair)
   pub filed_after : Option (List Pair)
 
+-- the first of a list, or this one where it is empty
 abbrev pub first_of : {A : Type 0} → A → List A → A
 first_of a [] = a
 first_of a (b ∷ bs) = b
@@ -128,6 +130,7 @@ abbrev pub all_failures : List Record → ℕ
 all_failures [] = 0
 all_failures (r ∷ rs) = failures r + all_failures rs
 
+-- the sum of several counts
 abbrev pub total : List ℕ → ℕ
 total ns = sum_by (λ n. n) ns
 

@@ -76,6 +76,7 @@ RunsWarmly words input o out err s =
     → command_of words ≡ Ok c → IsTrue (resolves c.verb) → Answers run.makes text → HasPlainRunOf c.verb (operand_words words) text run.found bytes → ¬ (s ≡ status.Limit)
     → EndsWarmly s × (s ≡ status.Ok → WritesSame c.verb bytes out err)
 
+-- wherever the command would succeed without the cache and no limit is named, a run that ends well writes the same but for binder names
 abbrev pub WarmRunsOn : Type 0
 WarmRunsOn = (words : List Word) (input : Input) (o : Outside) (out err : Output) (s : Status) → RunsWarmly words input o out err s
 

@@ -30,6 +30,7 @@ IsRecordBelow n p = AreBelow n p.1 × IsTrue (ascending p.0) × (length p.0 ≡ 
 abbrev pub Joins : (ℕ → Core) → Memo (Option ℕ) → Type 0
 Joins f m = (a b : ℕ) (o : Option ℕ) → entry m a b ≡ Some o → option_map f o ≡ joined (f a) (f b)
 
+-- all codes that a memory of joined types has are below n
 abbrev pub AreFoundBelow : ℕ → Memo (Option ℕ) → Type 0
 AreFoundBelow n m = (a b : ℕ) (o : Option ℕ) → entry m a b ≡ Some o → IfSome o (λ c. c < n)
 

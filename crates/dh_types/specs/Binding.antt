@@ -12,6 +12,7 @@ use Rattle.dh_store.specs.Cells.{outside}
 abbrev pub bound_ref : ℕ → ℕ → Ref → Ref
 bound_ref n k r = if ref_eq (outside [] n) r then Bound k else r
 
+-- the walk that makes the variable of the context with the number n that of the binder above
 abbrev pub binding : ℕ → Move ℕ Ref Name Ref Name
 binding n = record { leaf = bound_ref n; binder = λ y. y; enter = λ k y. suc k }
 

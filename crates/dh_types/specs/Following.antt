@@ -64,6 +64,7 @@ universe_found found (suc (suc k)) = None
 abbrev pub facts_of : (ℕ → Core) → Found → Facts Core
 facts_of f found = record { normal = λ k. option_map f (normal_found found k); universe = universe_found found }
 
+-- what a rule does next, where a number stands for `f` of it
 abbrev pub course_of : (ℕ → Core) → Step → Course Core
 course_of f (steps.Takes c) = Takes (f c)
 course_of f (steps.Forms c) = Forms (f c)

@@ -18,6 +18,7 @@ way_at ways n = slice_index_or ways n headway.Unknown
 abbrev pub IsWayOf : Kept → List Key → ℕ → Headway → Type 0
 IsWayOf s keys n way = (way ≡ headway.Unknown) ⊎ ((n < length keys) × IsWay s.recorded (known s.outcomes) (named keys n) way)
 
+-- for each number, nothing is known of the walk of its text, or the walk comes so far by what is kept
 abbrev pub AreWays : Kept → List Key → List Headway → Type 0
 AreWays s keys ways = (n : ℕ) → IsWayOf s keys n (way_at ways n)
 

@@ -22,6 +22,7 @@ pub record Pausing : Type 0 where
   pub after : ℕ
   pub is_over : Bool
 
+-- pauses with these counts before and after, and whether none comes any more
 abbrev pub pausing : ℕ → ℕ → Bool → Pausing
 pausing before after is_over = record { before = before; after = after; is_over = is_over }
 

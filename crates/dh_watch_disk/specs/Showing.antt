@@ -19,10 +19,12 @@ abbrev pub told_text : Told → List ℕ
 told_text (tolds.Line line) = line.text
 told_text (tolds.Refused f) = refusal_text (refusal_of f)
 
+-- the status of an ask by what is told of its location
 abbrev pub told_status : Told → Status
 told_status (tolds.Line line) = line.status
 told_status (tolds.Refused f) = refusal_status (refusal_of f)
 
+-- the line that tells of a location: with its count of locations, or why the ask was refused
 abbrev pub told_line : Loc → Told → List ℕ
 told_line l (tolds.Line line) = ask_line l line.text line.asked
 told_line l (tolds.Refused f) = refused_line l (refusal_of f)
@@ -44,12 +46,14 @@ is_open (tolds.Refused faults.Failed) = true
 is_open (tolds.Refused faults.TooMany) = false
 is_open (tolds.Refused faults.Memory) = true
 
+-- whether another ask of one of these locations may tell something else though no file is another
 abbrev pub are_open : List Told → Bool
 are_open [] = false
 are_open (t ∷ ts) = is_open t || are_open ts
 
 -- ---- asks and edits
 
+-- the refusal of an ask, where it was refused
 abbrev pub told_refusals : Told → List Refusal
 told_refusals (tolds.Line line) = []
 told_refusals (tolds.Refused f) = refusal_of f ∷ []

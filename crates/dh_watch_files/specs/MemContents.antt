@@ -9,5 +9,6 @@ abbrev pub pairs_of : List (OrderedLoc × List ℕ) → Now
 pairs_of [] = []
 pairs_of (f ∷ fs) = (f.0.loc, f.1) ∷ pairs_of fs
 
+-- the contents that these files in memory have
 abbrev pub now_of : MemFiles → Now
 now_of m = pairs_of m.files.entries

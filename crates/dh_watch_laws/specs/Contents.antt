@@ -9,13 +9,16 @@ use Rattle.dh_syntax.specs.Text.Spelling.{ParsesTo}
 use Rattle.dh_syntax.specs.declared.locations.Digest.{Digest}
 use Rattle.dh_imports.specs.Records as found
 
+-- the bytes of each location that has any
 abbrev pub Now : Type 0
 Now = List (Loc × List ℕ)
 
+-- the contents without the bytes of a location
 abbrev pub dropped : Loc → Now → Now
 dropped l [] = []
 dropped l (p ∷ ps) = if loc_eq p.0 l then dropped l ps else p ∷ dropped l ps
 
+-- the contents where a location has these bytes
 abbrev pub set : Loc → List ℕ → Now → Now
 set l bytes now = (l, bytes) ∷ dropped l now
 

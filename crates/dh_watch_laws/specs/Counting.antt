@@ -58,6 +58,7 @@ pub record Many (s : Kept) (root : Key) (n : ℕ) : Type 0 where
   pub visited : (k : Key) → IsAmong k keys → IsVisited s root k
   pub count : n ≡ length keys
 
+-- The keys on the trail of a run and those that it gave outcomes are so many different keys, each visited.
 abbrev pub ManyAreVisited : Type 0
 ManyAreVisited =
     (old s : Kept) (root : Key) (trail : List Key) (n : ℕ) → IsSound old → Runs old root s trail

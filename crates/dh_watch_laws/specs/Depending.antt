@@ -12,19 +12,23 @@ use Rattle.dh_imports.specs.Machine.{IsAmong}
 use Rattle.dh_imports.specs.Walk.{Ask}
 use Rattle.dh_syntax.specs.declared.locations.Mode.TheVariants as modes
 
+-- the text of a location, unless it is one that is never fetched
 abbrev pub part_fetched : Loc → Option Why → Option Part
 part_fetched l (Some w) = None
 part_fetched l None = Some (TextOf l)
 
+-- the part of the record that a location in this mode asks for, if it asks for one
 abbrev pub part_of_mode : Loc → Mode → Option Part
 part_of_mode l modes.Location = None
 part_of_mode l modes.Text = part_fetched l (unfetched l)
 part_of_mode l modes.Code = part_fetched l (unfetched l)
 
+-- the look that a digest asks for, or the part that the key without it does
 abbrev pub part_of_digest : Key → Option Digest → Option Part
 part_of_digest k (Some d) = Some (LookOf d)
 part_of_digest k None = part_of_mode k.loc k.mode
 
+-- the part of the record that a key asks for first, if it asks for one
 abbrev pub part_of : Key → Option Part
 part_of k = part_of_digest k k.digest
 

@@ -12,6 +12,7 @@ use Rattle.dh_syntax.specs.declared.locations.Key.{Key}
 use Rattle.dh_watch_laws.specs.Running.{Runs}
 use Rattle.dh_imports.specs.Records as found
 
+-- the asked locations but for one that is edited
 abbrev pub edited : Loc → List Loc → List Loc
 edited l [] = []
 edited l (x ∷ xs) = if loc_eq x l then edited l xs else x ∷ edited l xs
@@ -22,6 +23,7 @@ pub record Agrees (now : Now) (asked : List Loc) (s : Kept) : Type 0 where
   pub over : IsOver now s.recorded
   pub asked_are_kept : (l : Loc) → IsAmong l asked ↔ ((t : Noted) × (text_at s.recorded l ≡ Some t))
 
+-- the texts but for that of a location
 abbrev pub texts_without : Loc → List (Loc × Noted) → List (Loc × Noted)
 texts_without l [] = []
 texts_without l (p ∷ ps) = if loc_eq p.0 l then texts_without l ps else p ∷ texts_without l ps
@@ -52,6 +54,7 @@ EditsAgreeLater =
     → ((x : Loc) → loc_eq l x ≡ false → lookup loc_eq now' x ≡ lookup loc_eq now x)
     → AgreesLater now' (edited l asked) texts' s
 
+-- What agrees also agrees before a sweep, with its own texts; and what agrees before a sweep agrees after it.
 abbrev pub AgreesLaterThenSwept : Type 0
 AgreesLaterThenSwept =
     (now : Now) (asked : List Loc) (texts : List (Loc × Noted)) (s : Kept)

@@ -21,9 +21,11 @@ use Rattle.dh_import_laws.specs.Blames.{StandsIn}
 abbrev pub Outcomes : Type 0
 Outcomes = List (Key × Outcome)
 
+-- the outcome that is kept of a key
 abbrev pub known : Outcomes → Ask
 known l k = lookup key_eq l k
 
+-- the outcome of a key is no loop
 abbrev pub IsNoLoop : Outcome → Type 0
 IsNoLoop (Good v o) = Unit {0}
 IsNoLoop (Bad b) = Unit {0}
@@ -43,6 +45,7 @@ pub record IsLimited (r : Record) (ask : Ask) (k : Key) (w : Why) : Type 0 where
   pub licensed : IsLimitOf code w
   pub decides : ask k ≡ Some (own k w)
 
+-- what is kept between two asks: what was recorded, and the outcomes
 pub record Kept : Type 0 where
   pub recorded : Record
   pub outcomes : Outcomes
@@ -52,15 +55,19 @@ pub record IsSound (s : Kept) : Type 0 where
   pub found : Found s.recorded s.outcomes
   pub limited : (k : Key) (w : Why) → limit_at s.recorded k ≡ Some w → IsLimited s.recorded (known s.outcomes) k w
 
+-- nothing is kept
 abbrev pub nothing_kept : Kept
 nothing_kept = record { recorded = record { texts = []; looks = []; limits = [] }; outcomes = [] }
 
+-- what is kept with one more text
 abbrev pub keep_text : Kept → Loc → Noted → Kept
 keep_text s l t = record s { recorded = with_text s.recorded l t }
 
+-- what is kept with one more look
 abbrev pub keep_look : Kept → Digest → Seen → Kept
 keep_look s d look = record s { recorded = with_look s.recorded d look }
 
+-- what is kept with one more outcome of a key, and its limit if it met one
 abbrev pub keep_outcome : Kept → Key → Option Why → Outcome → Kept
 keep_outcome s k limit o = record { recorded = with_limit s.recorded k limit; outcomes = (k, o) ∷ s.outcomes }
 
@@ -74,9 +81,11 @@ IsLast s k (Some w) o =
 abbrev pub TextKept : Type 0
 TextKept = (s : Kept) (l : Loc) (t : Noted) → IsSound s → text_at s.recorded l ≡ None → IsSound (keep_text s l t)
 
+-- With one more look, where none was, what is kept holds together.
 abbrev pub LookKept : Type 0
 LookKept = (s : Kept) (d : Digest) (look : Seen) → IsSound s → look_at s.recorded d ≡ None → IsSound (keep_look s d look)
 
+-- With one more outcome, by its last step or a licensed limit, of a key that had none, what is kept holds together.
 abbrev pub OutcomeKept : Type 0
 OutcomeKept = (s : Kept) (k : Key) (limit : Option Why) (o : Outcome) → IsSound s → known s.outcomes k ≡ None → IsLast s k limit o → IsSound (keep_outcome s k limit o)
 

@@ -14,6 +14,7 @@ use Rattle.dh_imports.specs.Machine.{IsAmong}
 use Rattle.dh_watch_laws.specs.Sweeping.{AreOf}
 use Rattle.dh_watch_laws.specs.Visiting.{Visits, looped, IsClosed}
 
+-- the stage of a key by what is kept
 abbrev pub stage_at : Kept → Key → Stage
 stage_at s k = stage s.recorded (known s.outcomes) k
 
@@ -33,10 +34,12 @@ pub data Runs (old : Kept) (root : Key) : Kept → List Key → Type 0 where
 abbrev pub IsVisited : Kept → Key → Key → Type 0
 IsVisited s root j = (more : Ask) → ((k : Key) (o : Outcome) → known s.outcomes k ≡ Some o → more k ≡ Some o) → From s.recorded more root j
 
+-- the keys that have outcomes
 abbrev pub keys_of_outcomes : Outcomes → List Key
 keys_of_outcomes [] = []
 keys_of_outcomes (p ∷ l) = p.0 ∷ keys_of_outcomes l
 
+-- no key stands twice in the list
 abbrev pub AreApart : List Key → Type 0
 AreApart [] = Unit {0}
 AreApart (k ∷ ks) = (is_in k ks ≡ false) × AreApart ks

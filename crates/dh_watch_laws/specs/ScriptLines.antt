@@ -12,6 +12,7 @@ use Rattle.dh_syntax.specs.declared.expressions.Op.TheVariants as ops
 use Rattle.dh_syntax.specs.declared.locations.Loc.TheVariants as locs
 use Rattle.dh_syntax.specs.declared.locations.Mode.TheVariants as modes
 
+-- an order of a script: to set, to drop or to ask a location
 pub data Order : Type 0 where
   -- the location has these bytes from here on
   Set : Loc → List ℕ → Order
@@ -19,11 +20,12 @@ pub data Order : Type 0 where
   Drop : Loc → Order
   Ask : Loc → Order
 
--- the stretches that end in a line feed, and the rest behind the last one, if there is any
+-- lines with one more byte before the first of them
 abbrev pub with_byte : ℕ → List (List ℕ) → List (List ℕ)
 with_byte b [] = (b ∷ []) ∷ []
 with_byte b (l ∷ ls) = (b ∷ l) ∷ ls
 
+-- the lines of a text without their line feeds, and the rest behind the last one, if there is any
 abbrev pub lines_of : List ℕ → List (List ℕ)
 lines_of [] = []
 lines_of (b ∷ bs) = if eq b 10 then [] ∷ lines_of bs else with_byte b (lines_of bs)
@@ -52,6 +54,7 @@ bytes_of [] = Some []
 bytes_of (h ∷ []) = None
 bytes_of (h ∷ l ∷ rest) = pair (digit (is_ascii_hexdigit h) h) (digit (is_ascii_hexdigit l) l) (bytes_of rest)
 
+-- whether the bytes have a blank
 abbrev pub has_blank : List ℕ → Bool
 has_blank [] = false
 has_blank (b ∷ bs) = eq b 32 || has_blank bs

@@ -28,6 +28,7 @@ abbrev pub limits_left : Ask → List (Key × Why) → List (Key × Why)
 limits_left ask [] = []
 limits_left ask (p ∷ ps) = if is_some (ask p.0) then p ∷ limits_left ask ps else limits_left ask ps
 
+-- the record with these texts instead of its own
 abbrev pub with_texts : Record → List (Loc × Noted) → Record
 with_texts r texts = record { texts = texts; looks = r.looks; limits = r.limits }
 

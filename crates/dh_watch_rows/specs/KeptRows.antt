@@ -55,6 +55,7 @@ pub record AreGood (keys : List Entrant) (texts : List Text) (looks : List Look)
 abbrev pub kept_of : Rows → Kept
 kept_of t = kept_by t.keys t.texts.items t.looks.items t.found.items t.limited.items
 
+-- what is always true of rows: keys are numbered once, and texts, looks and outcomes stand in order
 abbrev pub IsGood : Rows → Type 0
 IsGood t = AreGood t.keys t.texts.items t.looks.items t.text_order.numbers.items t.look_order.numbers.items t.found.items t.limited.items
 

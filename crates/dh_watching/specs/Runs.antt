@@ -17,6 +17,7 @@ use Rattle.dh_watching.specs.Steps.{Goes, IsEdit, IsUnchanged, State}
 
 -- ---- runs that are refused before the first order
 
+-- the status of a run whose text is no script
 abbrev pub fault_status : ScriptFault → Status
 fault_status faults.TooLarge = status.Text
 fault_status (faults.NotUtf8 at) = status.Text

@@ -15,6 +15,7 @@ use Rattle.dh_watching.specs.declared.watches.Line.{Line}
 use Rattle.dh_watching.specs.declared.watches.WatchFault.{WatchFault}
 use Rattle.dh_watching.specs.declared.watches.WatchFault.TheVariants as faults
 
+-- why an ask is refused, by the fault of the watcher
 abbrev pub refusal_of : WatchFault → Refusal
 refusal_of faults.Failed = Failed
 refusal_of faults.TooMany = TooMany
@@ -54,6 +55,7 @@ pub record State : Type 0 where
   pub asked : ℕ
   pub faults : ℕ
 
+-- a state of what is watched, with these contents, kept locations, count of asked texts and count of failed calls
 abbrev pub state : Option Now → List Loc → ℕ → ℕ → State
 state told kept asked faults = record { told = told; kept = kept; asked = asked; faults = faults }
 

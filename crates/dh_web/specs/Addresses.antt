@@ -2,6 +2,7 @@
 use Rattle.std.specs.Prelude.{◌≡◌, ℕ, ◌<◌, ◌^◌, ◌⊎◌, ◌==◌, Bool, List, []}
 use Rattle.std.specs.Str.Parse.{digits_value, IsNumeral}
 
+-- whether the byte is a colon
 abbrev pub is_colon : ℕ → Bool
 is_colon b = b == 58
 

@@ -9,14 +9,17 @@ lets_left (suc zero) = true
 lets_left (suc (suc (suc n))) = lets_left n
 lets_left _ = false
 
+-- whether so many items may be left at the type of a let: it, its value and what follows
 abbrev pub type_left : ℕ → Bool
 type_left (suc (suc n)) = lets_left n
 type_left _ = false
 
+-- whether so many items may be left at the value of a let: it and what follows
 abbrev pub value_left : ℕ → Bool
 value_left (suc n) = lets_left n
 value_left _ = false
 
+-- whether so many items of an array may be left at this place
 abbrev pub ok : {T : Type 0} → Place T → ℕ → Bool
 ok first n = le 2 n
 ok (finished t) n = eq n 0
@@ -61,6 +64,7 @@ sort (key nulls es) = rows nulls
 sort (value nulls es x) = rows nulls
 sort _ = term
 
+-- whether a value is one that was wanted
 abbrev pub gives : {T : Type 0} → Want → Value T → Bool
 gives term (holds t) = true
 gives whole (holds t) = true

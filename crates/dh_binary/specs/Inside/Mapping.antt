@@ -4,6 +4,7 @@ use Rattle.dh_syntax.specs.declared.expressions.Op.{Op}
 use Rattle.dh_syntax.specs.Expressions.Tree.{Name, Var}
 use Rattle.dh_binary.specs.Machine.{Making, Entry, Value, nothing, holds, called, counted, indexed, signed, coded, by, hashed, taken, queried, names, entries, Binding, Place, first, finished, applying, operands, binder, quantify, operating, emptied, skipping, rowing, selecting, selected, projecting, projected, labelled, numeral, signed_numeral, piece, between, importing, moding, locating, components, headers, hosting, segments, environment, let_name, let_type, let_value, updating, update_path, update_value, indexing, labels, boxing, key, value, Frame, State, reading, done, stopped}
 
+-- a function applied to what may be there
 abbrev pub option_map : {A B : Type 0} → (A → B) → Option A → Option B
 option_map f None = None
 option_map f (Some a) = Some (f a)

@@ -7,10 +7,12 @@ use Rattle.dh_syntax.specs.declared.expressions.Op.TheVariants as ops
 use Rattle.dh_syntax.specs.declared.locations.Digest.{Digest}
 use Rattle.dh_syntax.specs.Expressions.Tree.{Row, Leaf, Node, end, kid, Name, Var, Term}
 
+-- whether a digest, if there is one, has 32 bytes
 abbrev pub digest_has_values : Option Digest → Bool
 digest_has_values None = true
 digest_has_values (Some d) = length d.0 == 32
 
+-- whether the number of a node, its digest or its pieces of text are in their ranges
 abbrev pub op_has_values : Op → Bool
 op_has_values (ops.Nat n) = nat_lt n (2 ^ 128)
 op_has_values (ops.Int (pos n)) = nat_lt n (2 ^ 127)

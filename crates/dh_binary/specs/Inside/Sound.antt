@@ -4,6 +4,7 @@ use Rattle.dh_syntax.specs.Bytes.BinaryHeads.{Atom, unsigned, negative, octets, 
 use Rattle.dh_syntax.specs.Bytes.BinaryItems.{Item, single, array_of, map_of, tagged, Items, no_items, more_items, Pairs, no_pairs, more_pairs}
 use Rattle.dh_binary.specs.ItemBytes.{fits_head}
 
+-- whether the number of an atom fits its head
 abbrev pub atom_sound : Atom → Bool
 atom_sound (unsigned n) = fits_head n
 atom_sound (negative n) = fits_head n

@@ -28,8 +28,10 @@ with_name x xs = or_same stubs (inserted (λ y. y) x xs) xs
 abbrev pub with_entry : Name → Option Kept → List (Entry Kept) → List (Entry Kept)
 with_entry x v es = or_same stubs (inserted (λ e. e.name) (record { name = x; value = v }) es) es
 
+-- the labels of these entries
 abbrev pub labels_of : List (Entry Kept) → List Name
 labels_of es = map (λ e. e.name) es
 
+-- the alternatives of a union with these entries, with a type where there is a value
 abbrev pub alternatives_of : List (Entry Kept) → List Alt
 alternatives_of es = map (λ e. record { label = e.name; typed = is_some e.value }) es

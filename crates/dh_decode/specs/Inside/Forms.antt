@@ -4,6 +4,7 @@ use Rattle.dh_syntax.specs.declared.expressions.Op.TheVariants as ops
 use Rattle.dh_decode.specs.declared.places.Form.{Form}
 use Rattle.dh_decode.specs.declared.places.Form.TheVariants as forms
 
+-- the operator of an expression of this form
 abbrev pub op_of : Form → Op
 op_of forms.Lam = ops.Lam
 op_of forms.Pi = ops.Pi

@@ -17,6 +17,7 @@ host_from places.Hyphen bs = after_hyphen bs
 host_from places.Dot bs = after_dot bs
 host_from places.Port bs = list_all is_ascii_digit bs
 
+-- whether a host may go on with these bytes, from the place if there is one
 abbrev pub host_next : Option HostPlace → List ℕ → Bool
 host_next (Some p) bs = host_from p bs
 host_next None bs = false

@@ -14,6 +14,7 @@ use Rattle.dh_decode.specs.declared.places.Value.{Value}
 use Rattle.dh_decode.specs.declared.places.Want.{Want}
 use Rattle.dh_decode.specs.declared.places.Want.TheVariants as wants
 
+-- what a test asks of a text
 abbrev pub test_of : Test → List ℕ → Bool
 test_of tests.Named = machine.is_named
 test_of tests.Label = is_label
@@ -28,18 +29,22 @@ abbrev pub labels_in : machine.Place Kept → List Name
 labels_in (machine.labelled t xs) = xs
 labels_in p = []
 
+-- the entries that are there where the key of another one is read
 abbrev pub keys_in : machine.Place Kept → List (machine.Entry Kept)
 keys_in (machine.key nulls es) = es
 keys_in p = []
 
+-- the labels in the place of the innermost frame
 abbrev pub labels_on : List (machine.Frame Kept) → List Name
 labels_on [] = []
 labels_on (f ∷ st) = labels_in f.place
 
+-- the entries in the place of the innermost frame, where a key is read
 abbrev pub keys_on : List (machine.Frame Kept) → List (machine.Entry Kept)
 keys_on [] = []
 keys_on (f ∷ st) = keys_in f.place
 
+-- what the plain reader wants next, by what is open
 abbrev pub want_of : Want → List (machine.Frame Kept) → machine.Want
 want_of wants.Term st = machine.term
 want_of wants.Whole st = machine.whole
@@ -64,6 +69,7 @@ want_of wants.Boxed st = machine.boxed
 want_of (wants.Rows nulls) st = machine.rows nulls
 want_of wants.None st = machine.none
 
+-- the state of the plain reader, by what is wanted and what is open
 abbrev pub state_of : Want → List Frame → State Kept
 state_of w fs = reading (want_of w (frames_of fs)) (frames_of fs)
 

@@ -20,24 +20,31 @@ use Rattle.dh_decode.specs.declared.places.Start.{Start}
 use Rattle.dh_decode.specs.declared.places.Value.{Value}
 use Rattle.dh_decode.specs.declared.places.Value.TheVariants as values
 
+-- an expression that was read, as the plain reader keeps it
 abbrev pub part_of : Part → Kept
 part_of p = record { expression = term p.held.value.expression; nests = p.held.value.nests }
 
+-- a text that the program holds
 abbrev pub Text : Type 0
 Text = Bor (List ℕ)
 
+-- a label and its value, as the plain reader keeps them
 abbrev pub entry_of : Text × Option Part → machine.Entry Kept
 entry_of e = record { name = e.0.now; value = option_map part_of e.1 }
 
+-- labels and their values, as the plain reader keeps them
 abbrev pub entries_of : List (Text × Option Part) → List (machine.Entry Kept)
 entries_of es = map entry_of es
 
+-- the labels of entries without values
 abbrev pub names_of : List (Text × Unit {0}) → List Name
 names_of es = map (λ e. e.0.now) es
 
+-- the digest in its box, if there is one
 abbrev pub digest_of : Option (Box Digest Global) → Option Digest
 digest_of d = option_map (λ b. b.value) d
 
+-- what was read last, as the plain reader keeps it
 abbrev pub value_of : Value → machine.Value Kept
 value_of values.Nothing = machine.nothing
 value_of (values.Holds p) = machine.holds (part_of p)
@@ -53,17 +60,21 @@ value_of (values.Queried q) = machine.queried (option_map (λ x. x.now) q)
 value_of (values.Path ks) = machine.names ks
 value_of (values.Entries m) = machine.entries (entries_of m.entries)
 
+-- a `let` binding, as the plain reader keeps it
 abbrev pub binding_of : Binding → machine.Binding Kept
 binding_of b = record { name = b.name.now; type = option_map part_of b.annotation; value = part_of b.value }
 
+-- the digest and the mode with which an import starts, as the plain reader keeps them
 abbrev pub start_of : Start → machine.Start
 start_of s = record { digest = digest_of s.digest; mode = s.mode }
 
+-- what a row is of, as the plain reader says it: types, values or alternatives
 abbrev pub kind_of : RowKind → machine.RowKind
 kind_of kinds.Types = machine.types
 kind_of kinds.Values = machine.values
 kind_of kinds.Alternatives = machine.alternatives
 
+-- a place in an open item, as the plain reader keeps it
 abbrev pub place_of : OpenItem → machine.Place Kept
 place_of places.First = machine.first
 place_of (places.Finished t) = machine.finished (part_of t)
@@ -104,9 +115,11 @@ place_of places.Boxing = machine.boxing
 place_of (places.Key nulls m) = machine.key nulls (entries_of m.entries)
 place_of (places.Value nulls m x) = machine.value nulls (entries_of m.entries) x.now
 
+-- an open item, as the plain reader keeps it
 abbrev pub frame_of : Frame → machine.Frame Kept
 frame_of f = record { place = place_of f.place; left = f.left }
 
+-- the open items, as the plain reader keeps them
 abbrev pub frames_of : List Frame → List (machine.Frame Kept)
 frames_of [] = []
 frames_of (f ∷ fs) = frame_of f ∷ frames_of fs

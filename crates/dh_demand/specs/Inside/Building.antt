@@ -38,6 +38,7 @@ abbrev pub with_kid : List Kid → Option Name → Option Expr → List Kid
 with_kid ks b None = ks
 with_kid ks b (Some e) = ks ++ record { binder = b; body = e } ∷ []
 
+-- the value of a good outcome
 abbrev pub value_of_outcome : Option program.Outcome → Option Expr
 value_of_outcome None = None
 value_of_outcome (Some (variants.Good v o)) = Some v

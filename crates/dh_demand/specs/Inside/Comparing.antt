@@ -15,6 +15,7 @@ abbrev pub is_term : Term → Option Term → Bool
 is_term v None = false
 is_term v (Some w) = term_eq v w
 
+-- whether there are parts and they equal these
 abbrev pub are_parts : Parts Var Name → Option (Parts Var Name) → Bool
 are_parts r None = false
 are_parts r (Some s) = row_eq r s
@@ -56,9 +57,11 @@ going_on None binder part = None
 
 -- ---- by kids
 
+-- the expression of a part, without its binder
 abbrev pub body_of : Kid → Expr
 body_of k = k.body
 
+-- the part of this number, where there are parts
 abbrev pub kid_at : Option (List Kid) → ℕ → Option Kid
 kid_at None i = None
 kid_at (Some ks) i = slice_get ks i

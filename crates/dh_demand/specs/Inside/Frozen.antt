@@ -14,9 +14,11 @@ takes k (Fails b) = false
 takes k (Turns j) = false
 takes k (Needs j) = false
 
+-- the number of a key whose import takes a digest
 abbrev pub frozen : List Row → Key → Option ℕ
 frozen rows k = if takes k (walk_key None (ask_of rows) k) then number_of rows k else None
 
+-- the list with this number at a place, if there is one
 abbrev pub put : ℕ → Option ℕ → List (Option ℕ) → List (Option ℕ)
 put i None keys = keys
 put i (Some n) keys = slice_set keys i (Some n)

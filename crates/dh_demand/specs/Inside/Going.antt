@@ -12,6 +12,7 @@ goes_on (Ready x) = false
 goes_on (Turns j) = false
 goes_on (Needs k) = false
 
+-- whether the outcome is a fault after which `?` goes on
 abbrev pub has_passing_fault : Option program.Outcome → Bool
 has_passing_fault None = false
 has_passing_fault (Some (variants.Good v o)) = false

@@ -12,6 +12,7 @@ use Rattle.dh_demand.specs.Results.{Row, number_of, ask_of}
 use Rattle.dh_demand.specs.Scans.{text_key}
 use Rattle.dh_demand.specs.Inside.Seen.{Sight}
 
+-- the marks with that of this number, if there is one
 abbrev pub mark : Option ℕ → List Bool → List Bool
 mark None marks = marks
 mark (Some n) marks = slice_set marks n true
@@ -30,6 +31,7 @@ abbrev pub good_or : Option Outcome → Outcome
 good_or None = Good (Leaf (record { name = []; index = 0 })) Made
 good_or (Some o) = o
 
+-- the outcomes that are known, where each key without one counts as good
 abbrev pub assumed : Ask → Ask
 assumed ask k = Some (good_or (ask k))
 
@@ -43,6 +45,7 @@ noting all sane (next.Need m) = true
 noting all sane next.Ready = all
 noting all sane (next.Fault e) = all && sane
 
+-- what comes next where a key that is needed counts as good
 abbrev pub passing : Next → Next
 passing (next.Need m) = next.Ready
 passing next.Ready = next.Ready

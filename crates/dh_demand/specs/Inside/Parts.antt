@@ -6,11 +6,13 @@ use Rattle.dh_imports.specs.Walk.{Form, importing, choosing, other, form_of}
 use Rattle.dh_demand.specs.declared.parts.Part.{Part}
 use Rattle.dh_demand.specs.declared.parts.Part.TheVariants.{Import, Choice, Other}
 
+-- what a node of this form is: an import, a choice, or another one
 abbrev pub by_form : Form → Part
 by_form (importing i) = Import
 by_form choosing = Choice
 by_form other = Other
 
+-- what a node with this operator is: an import, a choice, or another one
 abbrev pub part_of : Op → Part
 part_of op = by_form (form_of op)
 

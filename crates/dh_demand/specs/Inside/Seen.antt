@@ -38,6 +38,7 @@ begins unspelled (importing i) = unspelled
 begins unspelled choosing = true
 begins unspelled other = true
 
+-- the key of a node in a text at this location, where it is an import
 abbrev pub own_key : Option Loc → Form → List (Option Key)
 own_key at (importing i) = Some (chained at i) ∷ []
 own_key at choosing = []
@@ -54,15 +55,17 @@ abbrev mutual
   seen s unspelled (Leaf v) = []
   seen s unspelled (Node op r) = own_key s.parent (form_of op) ++ seen_row s unspelled (chooses unspelled (form_of op) r) (begins unspelled (form_of op)) r
 
+  -- for each import in the parts of a node its key, where the walk comes to it
   pub seen_row : {S : Type 0} → Sight S → Bool → Bool → Bool → Parts Var Name → List (Option Key)
   seen_row s unspelled choice here end = []
   seen_row s unspelled choice here (kid b e r) =
       where_it_comes here (imports e) (seen s unspelled e) ++ seen_row s unspelled choice (here && goes_on (form_by choice) (walk (text_key s.parent) s.ask e)) r
 
--- how walks end one after the other, each where the walk comes to it
+-- how a walk ends, whatever it is ready with
 abbrev pub end_of : Walked Term → Walked (Unit {0})
 end_of w = and_then w (λ e. Ready tt)
 
+-- how walks end one after the other: the end of the last one to which one comes
 abbrev pub last : Bool → Bool → Walked (Unit {0}) → List (Walked Term) → Walked (Unit {0})
 last choice here before [] = before
 last choice true before (w ∷ ws) = last choice (goes_on (form_by choice) w) (end_of w) ws

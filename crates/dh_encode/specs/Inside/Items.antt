@@ -26,9 +26,11 @@ abbrev pub abstraction_of : ℕ → List Part → List ℕ
 abstraction_of code (plain a ∷ under x b ∷ []) = (function code a.alone x b.alone).alone
 abstraction_of code ps = null
 
+-- the bytes of a λ or a ∀ with this code and these parts
 abbrev pub abstraction_bytes : ℕ → Row Var Name → List ℕ
 abstraction_bytes code r = abstraction_of code (forms r)
 
+-- whether the built-in is `List`
 abbrev pub is_list_name : Builtin → Bool
 is_list_name builtins.List = true
 is_list_name b = false

@@ -103,51 +103,67 @@ three_items = refl
 
 -- ---- expressions
 
+-- a natural literal
 abbrev num : ℕ → Term
 num n = Node (ops.Nat n) end
 
+-- a literal of `Bool`
 abbrev bool : Bool → Term
 bool b = Node (ops.Bool b) end
 
+-- a built-in as an expression
 abbrev name_of : Builtin → Term
 name_of b = Node (ops.Builtin b) end
 
+-- a variable with this name and index
 abbrev var : Name → ℕ → Term
 var x n = Leaf (record { name = x; index = n })
 
+-- a row of one part, without a binder
 abbrev one : Term → Row Var Name
 one e = kid None e end
 
+-- a row of two parts, without a binder
 abbrev two : Term → Term → Row Var Name
 two e f = kid None e (one f)
 
+-- a row of three parts, without a binder
 abbrev three : Term → Term → Term → Row Var Name
 three e f g = kid None e (two f g)
 
+-- an operator between two expressions
 abbrev bin : BinOp → Term → Term → Term
 bin o l r = Node (ops.Bin o) (two l r)
 
+-- a function applied to an argument
 abbrev app : Term → Term → Term
 app f a = Node ops.App (two f a)
 
+-- a type, and a body in which this name is bound
 abbrev in_binder : Term → Name → Term → Row Var Name
 in_binder type x body = kid None type (kid (Some x) body end)
 
+-- `λ(x : type) → body`
 abbrev lam : Name → Term → Term → Term
 lam x type body = Node ops.Lam (in_binder type x body)
 
+-- the name `x`
 abbrev x_ : Name
 x_ = codes "x"
 
+-- the name `y`
 abbrev y_ : Name
 y_ = codes "y"
 
+-- the name `_`
 abbrev under_ : Name
 under_ = codes "_"
 
+-- the type `Bool`
 abbrev Bool_ : Term
 Bool_ = name_of builtin.Bool
 
+-- the type `Natural`
 abbrev Natural_ : Term
 Natural_ = name_of builtin.Natural
 

@@ -174,6 +174,7 @@ urls = refl
 
 -- ---- heads
 
+-- none of these bytes, in hexadecimal digits, begins with a head that can be read, all for this fault
 abbrev AllFail : List String → HeadFault → Type 0
 AllFail texts f = map (λ s. head_at (hex s)) texts ≡ map (λ s. Err f) texts
 

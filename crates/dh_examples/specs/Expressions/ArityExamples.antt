@@ -16,6 +16,7 @@ abbrev plain : ℕ → Row Var Name
 plain zero = end
 plain (suc n) = kid None x0 (plain n)
 
+-- a row of so many parts without a binder, and a last one under a binder of `x`
 abbrev binding : ℕ → Row Var Name
 binding zero = kid (Some x) x0 end
 binding (suc n) = kid None x0 (binding n)
@@ -24,9 +25,11 @@ binding (suc n) = kid None x0 (binding n)
 abbrev allowed : Op → List Bool
 allowed op = map (λ r. fits op r) (plain 0 ∷ plain 1 ∷ plain 2 ∷ plain 3 ∷ plain 4 ∷ binding 0 ∷ binding 1 ∷ binding 2 ∷ [])
 
+-- each of these nodes allows the same, part number by part number
 abbrev AllAllow : List Op → List Bool → Type 0
 AllAllow ops allows = map allowed ops ≡ map (λ o. allows) ops
 
+-- the node of the import `missing`
 abbrev missing : Op
 missing = ops.Import (record { loc = locs.Missing; mode = modes.Code; digest = None })
 
@@ -67,9 +70,11 @@ never :
     (false ∷ false ∷ false ∷ false ∷ false ∷ false ∷ false ∷ false ∷ [])
 never = refl
 
+-- the location at the host `h` over http with these components
 abbrev at_host : List Name → Loc
 at_host cs = locs.Http (record { host = codes "h"; comps = cs; query = None })
 
+-- the location at the host `h` over https with these components
 abbrev at_secure_host : List Name → Loc
 at_secure_host cs = locs.Https (record { host = codes "h"; comps = cs; query = None })
 

@@ -13,9 +13,11 @@ use Rattle.dh_examples.specs.Vocabulary.{typed, untyped, var, x, x0}
 use Rattle.dh_syntax.specs.Expressions.Forms.{app, lambda, natural, some}
 use Rattle.dh_syntax.specs.Expressions.Tree.{Node, end, Name}
 
+-- each of these texts passes the test
 abbrev AllPass : (List ℕ → Bool) → List String → Type 0
 AllPass test texts = map (λ t. test (codes t)) texts ≡ map (λ t. true) texts
 
+-- none of these texts passes the test
 abbrev NonePass : (List ℕ → Bool) → List String → Type 0
 NonePass test texts = map (λ t. test (codes t)) texts ≡ map (λ t. false) texts
 
@@ -68,6 +70,7 @@ hosts = refl
 no_hosts : NonePass is_host ("" ∷ "." ∷ "-a" ∷ "a-" ∷ "a-.b" ∷ "a-:1" ∷ "a..b" ∷ "a.-b" ∷ ":80" ∷ "h:x" ∷ "h.:x" ∷ "h:80:" ∷ "a_b" ∷ "u@h" ∷ "[::1]" ∷ "h/" ∷ [])
 no_hosts = refl
 
+-- the address of a host with one component and a query, if there is one
 abbrev web : String → String → Option Name → Url
 web host component query = record { host = codes host; comps = codes component ∷ []; query = query }
 

@@ -14,6 +14,7 @@ use Prim.Native.String.{String}
 abbrev with_digest : List ℕ → Term
 with_digest d = Node (ops.Import (record { loc = locs.Missing; mode = mode.Code; digest = Some (record { 0 = d }) })) end
 
+-- sixteen bytes, half a digest
 abbrev sixteen : List ℕ
 sixteen = hex "00 11 22 33 44 55 66 77 88 99 AA BB CC DD EE FF"
 

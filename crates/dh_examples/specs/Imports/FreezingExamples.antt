@@ -15,6 +15,7 @@ use Rattle.dh_imports.specs.Outcomes.{Good}
 use Rattle.dh_imports.specs.Walk.{Ask}
 use Rattle.dh_examples.specs.Imports.ImportExamples.{a_, b_, code, import, one, sum}
 
+-- `a ? b`
 abbrev choice : Term → Term → Term
 choice a b = form.operator bins.Fallback a b
 
@@ -49,9 +50,11 @@ right_is_taken = refl
 
 -- ---- the text
 
+-- the 32 bytes of a digest, all zero
 abbrev zeros : List ℕ
 zeros = 0 ∷ 0 ∷ 0 ∷ 0 ∷ 0 ∷ 0 ∷ 0 ∷ 0 ∷ 0 ∷ 0 ∷ 0 ∷ 0 ∷ 0 ∷ 0 ∷ 0 ∷ 0 ∷ 0 ∷ 0 ∷ 0 ∷ 0 ∷ 0 ∷ 0 ∷ 0 ∷ 0 ∷ 0 ∷ 0 ∷ 0 ∷ 0 ∷ 0 ∷ 0 ∷ 0 ∷ 0 ∷ []
 
+-- the insertion of a digest of zeros behind three characters
 abbrev behind_three : List Insertion
 behind_three = (3, record { 0 = zeros }) ∷ []
 

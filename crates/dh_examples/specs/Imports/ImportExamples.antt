@@ -37,24 +37,31 @@ here x = locs.Here (x ∷ [])
 abbrev web : List ℕ → List ℕ → Loc
 web host x = locs.Http (record { host = host; comps = x ∷ []; query = None })
 
+-- the key of a location in this mode, without a digest
 abbrev pub key : Loc → Mode → Key
 key l m = record { loc = l; mode = m; digest = None }
 
+-- the key of a location as code, without a digest
 abbrev pub code : Loc → Key
 code l = key l mode.Code
 
+-- the expression that imports a key
 abbrev pub import_as : Key → Term
 import_as k = Node (ops.Import (record { loc = k.loc; mode = k.mode; digest = k.digest })) end
 
+-- the expression that imports a location as code
 abbrev pub import : Loc → Term
 import l = import_as (code l)
 
+-- `a + b`
 abbrev pub sum : Term → Term → Term
 sum a b = form.operator bins.Plus a b
 
+-- `a ? b`
 abbrev or_else : Term → Term → Term
 or_else a b = form.operator bins.Fallback a b
 
+-- `1`
 abbrev pub one : Term
 one = form.natural 1
 
@@ -62,21 +69,27 @@ one = form.natural 1
 abbrev pub says : Term → Noted
 says e = found.Found [] None (Ok e)
 
+-- a record of these texts and of no look
 abbrev pub texts : List (Loc × Noted) → Record
 texts ts = record nothing_recorded { texts = ts }
 
+-- the location `./a`
 abbrev pub a_ : Loc
 a_ = here (codes "a")
 
+-- the location `./b`
 abbrev pub b_ : Loc
 b_ = here (codes "b")
 
+-- the location `./c`
 abbrev c_ : Loc
 c_ = here (codes "c")
 
+-- no key has an outcome yet
 abbrev nothing_known : Ask
 nothing_known k = None
 
+-- a key at fault for this reason
 abbrev fault : Key → Why → Blame
 fault k w = record { at = Some k; why = w }
 
@@ -124,6 +137,7 @@ missing : by nothing_recorded (code locs.Missing) ≡ Some (own (code locs.Missi
 unfolding last_step
 missing = refl
 
+-- the location `https://h/x`
 abbrev secure : Loc
 secure = locs.Https (record { host = codes "h"; comps = codes "x" ∷ []; query = None })
 
@@ -182,9 +196,11 @@ right_wanted = refl
 
 -- ---- frozen keys
 
+-- a digest of a single byte, which no real import has
 abbrev digest : Digest
 digest = record { 0 = 7 ∷ [] }
 
+-- the key of `./a` as code, with a digest
 abbrev frozen : Key
 frozen = record { loc = a_; mode = mode.Code; digest = Some digest }
 
@@ -197,6 +213,7 @@ from_cache = refl
 look_first : stage nothing_recorded nothing_known frozen ≡ Lacks (LookOf digest)
 look_first = refl
 
+-- a record in which `./a` says `1` and the cache has no entry for the digest
 abbrev missed : Record
 missed = record (texts ((a_, says one) ∷ [])) { looks = (digest, found.Miss) ∷ [] }
 

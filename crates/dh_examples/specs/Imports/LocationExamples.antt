@@ -5,18 +5,23 @@ use Rattle.dh_syntax.specs.declared.locations.Mode.TheVariants as mode
 use Rattle.dh_syntax.specs.declared.locations.Url.{Url}
 use Rattle.dh_syntax.specs.Imports.Locations.{Comps, folder, file, canon, chain, sane, cors, loc_text, url_component}
 
+-- the component `a`
 abbrev a_ : List ℕ
 a_ = codes "a"
 
+-- the component `b`
 abbrev b_ : List ℕ
 b_ = codes "b"
 
+-- the component `c`
 abbrev c_ : List ℕ
 c_ = codes "c"
 
+-- the component `.`
 abbrev dot : List ℕ
 dot = codes "."
 
+-- the component `..`
 abbrev up : List ℕ
 up = codes ".."
 
@@ -236,6 +241,7 @@ variable_in_input = refl
 
 -- ---- cross-origin imports
 
+-- the address of `b` at the host `k`
 abbrev at_k : Url
 at_k = record { host = codes "k"; comps = b_ ∷ []; query = None }
 

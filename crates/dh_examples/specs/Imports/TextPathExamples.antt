@@ -14,6 +14,7 @@ use Rattle.dh_imports.specs.TextPaths.{text_path}
 use Rattle.dh_imports.specs.Walk.{Ask, Ready, Fails}
 use Rattle.dh_examples.specs.Imports.ImportExamples.{a_, code, import, one, says, sum, texts}
 
+-- `a ? b`
 abbrev choice : Term → Term → Term
 choice a b = form.operator bins.Fallback a b
 
@@ -21,9 +22,11 @@ choice a b = form.operator bins.Fallback a b
 abbrev text : Term
 text = sum one (choice (import a_) (sum one one))
 
+-- each key has the value `1`
 abbrev with_value : Ask
 with_value k = Some (Good one (Fetched None))
 
+-- each key is at fault itself, for its text is absent
 abbrev with_fault : Ask
 with_fault k = Some (own k Absent)
 

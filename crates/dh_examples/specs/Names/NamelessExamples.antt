@@ -5,6 +5,7 @@ use Rattle.dh_examples.specs.Vocabulary.{bool_type, plus, var, x, y}
 use Rattle.dh_syntax.specs.Expressions.Forms.{lambda, let_in}
 use Rattle.dh_syntax.specs.Expressions.Tree.{Tree, Leaf}
 
+-- a variable that the binder of this number, from the nearest on, binds
 abbrev bound : {B : Type 0} → ℕ → Tree Ref B
 bound i = Leaf (Bound i)
 

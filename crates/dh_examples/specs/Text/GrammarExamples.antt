@@ -39,49 +39,63 @@ Reads text d e =
 
 -- ---- short names for trees
 
+-- a name without back quotes
 abbrev pub name : String → NameToken
 name x = plain (codes x)
 
+-- the label of a plain name
 abbrev pub key : String → Key
 key x = name_key (plain (codes x))
 
+-- the tree of a variable without an index
 abbrev pub v : String → Derivation
 v x = variable (name x) None
 
 -- ---- short names for expressions
 
+-- a node with these parts, none under a binder
 abbrev pub node : Op → List Term → Term
 node op es = Node op (parts es)
 
+-- a natural literal
 abbrev pub nat : ℕ → Term
 nat n = node (ops.Nat n) []
 
+-- a variable of index 0
 abbrev pub var : String → Term
 var x = Leaf (record { name = codes x; index = 0 })
 
+-- a variable with this index
 abbrev pub var_at : String → ℕ → Term
 var_at x n = Leaf (record { name = codes x; index = n })
 
+-- an operator between two expressions
 abbrev pub bin : BinOp → Term → Term → Term
 bin o l r = node (ops.Bin o) (l ∷ r ∷ [])
 
+-- `λ(x : a) → b`
 abbrev pub lam : String → Term → Term → Term
 lam x a b = Node ops.Lam (kid None a (kid (Some (codes x)) b end))
 
+-- `∀(x : a) → b`
 abbrev pub all : String → Term → Term → Term
 all x a b = Node ops.Pi (kid None a (kid (Some (codes x)) b end))
 
+-- `let x = a in b`
 abbrev pub let_of : String → Term → Term → Term
 let_of x a b = Node (ops.Let false) (kid None a (kid (Some (codes x)) b end))
 
+-- `let x : t = a in b`
 abbrev pub let_typed : String → Term → Term → Term → Term
 let_typed x t a b = Node (ops.Let true) (kid None t (kid None a (kid (Some (codes x)) b end)))
 
+-- the type `Bool`
 abbrev pub bool : Term
 bool = node (ops.Builtin builtins.Bool) []
 
 -- ---- functions and their types
 
+-- the tree of `λ(x : Bool) → x`
 abbrev identity : Derivation
 identity = lambda (name "x") (builtin builtins.Bool) (v "x")
 

@@ -55,6 +55,7 @@ empty_name = refl
 
 -- ---- texts
 
+-- a text literal with these chunks of text and these interpolated expressions
 abbrev text_term : List Name → List Term → Term
 text_term ps es = node (ops.Text ps) es
 
@@ -112,6 +113,7 @@ list_applied = refl
 
 -- ---- unions
 
+-- an alternative of a union, with a type or without one
 abbrev alternative : Name → Bool → Alt
 alternative x t = record { label = x; typed = t }
 
@@ -175,9 +177,11 @@ project_by_type = refl
 
 -- ---- imports
 
+-- an import of a location, with a digest if there is one, in this mode
 abbrev import_term : Loc → Option Digest → Mode → Term
 import_term l d m = node (ops.Import (record { loc = l; mode = m; digest = d })) []
 
+-- the location `./a`
 abbrev a_path : Loc
 a_path = locs.Here (codes "a" ∷ [])
 
@@ -193,6 +197,7 @@ import_as_text : Reads "env:HOME as Text" (import (environment (codes "HOME")) N
 unfolding tokens_of
 import_as_text = refl
 
+-- the location `https://a.b/c`
 abbrev a_url : Loc
 a_url = locs.Https (record { host = codes "a.b"; comps = codes "c" ∷ []; query = None })
 
@@ -200,6 +205,7 @@ import_as_location : Reads "https://a.b/c as Location" (import (url a_url) None 
 unfolding tokens_of
 import_as_location = refl
 
+-- the digest that is all zero
 abbrev zeros : Digest
 zeros = record { 0 = replicate 32 0 }
 

@@ -16,15 +16,19 @@ use Rattle.dh_syntax.specs.Text.Yield.{text_yield}
 abbrev AllLackGaps : List (String × Derivation) → Type 0
 AllLackGaps cases = map (λ c. fitted c.1 (tokens_of c.0)) cases ≡ map (λ c. Ok (map (λ w. w.kind) (text_yield c.1), false)) cases
 
+-- the tree of the variable `a`
 abbrev a : Derivation
 a = v "a"
 
+-- the tree of the variable `b`
 abbrev b : Derivation
 b = v "b"
 
+-- the tree of the variable `c`
 abbrev c : Derivation
 c = v "c"
 
+-- the tree of `(b)`
 abbrev in_brackets : Derivation
 in_brackets = brackets b
 
@@ -80,6 +84,7 @@ plus_and_fallback : AllLackGaps (("a +b", operation binary.Plus a b) ∷ ("a ?b"
 unfolding tokens_of
 plus_and_fallback = refl
 
+-- the digest that is all zero
 abbrev zeros : Digest
 zeros = record { 0 = replicate 32 0 }
 
@@ -94,6 +99,7 @@ digests = refl
 abbrev gap : ℕ → Bool × ℕ
 gap n = (true, n)
 
+-- a token before which no gap is needed, where so many expressions are open
 abbrev near : ℕ → Bool × ℕ
 near n = (false, n)
 

@@ -17,6 +17,7 @@ use Rattle.dh_syntax.specs.Text.Meaning.{meaning}
 use Rattle.std.proofs.lemmas.Bool.{leb-true}
 use lib.Utf8.{encode}
 
+-- where the imports of a text with this tree stand
 abbrev found : Derivation → Result (List Token) LexFault → List ℕ
 found d (Ok tokens) = import_offsets tokens d
 found d (Err fault) = []
@@ -25,6 +26,7 @@ found d (Err fault) = []
 abbrev here : String → Derivation
 here x = import (path (locs.Here (codes x ∷ []))) None modes.Code
 
+-- the entry `x = d` of a record
 abbrev equals : String → Derivation → Entry
 equals x d = given (one_key (key x)) d
 

@@ -35,12 +35,15 @@ in_unicode = refl
 abbrev ladder : List BinOp
 ladder = binary.Equivalent ∷ binary.Fallback ∷ binary.Or ∷ binary.Plus ∷ binary.TextAppend ∷ binary.ListAppend ∷ binary.And ∷ binary.Combine ∷ binary.Prefer ∷ binary.CombineTypes ∷ binary.Times ∷ binary.Equal ∷ binary.NotEqual ∷ []
 
+-- the tree of `(a o b) o c` without brackets
 abbrev grouped_left : BinOp → Derivation
 grouped_left o = operation o (operation o (v "a") (v "b")) (v "c")
 
+-- the tree of `a o (b o c)` without brackets
 abbrev grouped_right : BinOp → Derivation
 grouped_right o = operation o (v "a") (operation o (v "b") (v "c"))
 
+-- the tree of `a o (b o c)` with its brackets
 abbrev bracketed_right : BinOp → Derivation
 bracketed_right o = operation o (v "a") (brackets (operation o (v "b") (v "c")))
 

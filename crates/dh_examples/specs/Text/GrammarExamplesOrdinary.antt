@@ -18,6 +18,7 @@ handlers = record_of false
     (text forms.DoubleQuoted (more_chunks (start (Some (codes "user "))) (application (builtin builtins.NaturalShow) (v "n")) None)))))
     false
 
+-- a record with a handler for each of two alternatives
 abbrev handlers_term : Term
 handlers_term = node (ops.Record (codes "Admin" ∷ codes "User" ∷ []))
     (node (ops.Text (codes "admin" ∷ [])) []

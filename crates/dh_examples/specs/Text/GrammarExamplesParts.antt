@@ -9,6 +9,7 @@ use Rattle.dh_syntax.specs.Text.Derivation.{one_key, missing, Derivation, lambda
 use Rattle.dh_syntax.specs.Text.Derived.{binds, derived}
 use Rattle.dh_examples.specs.Text.GrammarExamples.{name, key, v}
 
+-- the tree of the variable `x`
 abbrev x : Derivation
 x = v "x"
 
@@ -21,15 +22,19 @@ of_level_0 =
     ∷ updates (one_update x (one_key (key "x")) x) ∷ merge_as x x x ∷ to_map_as x x ∷ empty_list false x ∷ assertion x
     ∷ annotation x x ∷ []
 
+-- trees of level 14: applications and the forms that go like them
 abbrev of_level_14 : List Derivation
 of_level_14 = application x x ∷ merging x x ∷ some_of x ∷ to_map x ∷ []
 
+-- trees of level 15: imports and record completion
 abbrev of_level_15 : List Derivation
 of_level_15 = import missing None modes.Code ∷ operation binary.Complete x x ∷ []
 
+-- trees of level 16: selections
 abbrev of_level_16 : List Derivation
 of_level_16 = field x (key "x") ∷ project_none x false ∷ project x false (one_key (key "x")) false ∷ project_by x x ∷ []
 
+-- trees of level 17: primitives
 abbrev of_level_17 : List Derivation
 of_level_17 =
     natural 1 ∷ integer (pos 1) ∷ truth true ∷ builtin builtins.List ∷ variable (name "x") (Some 1)
@@ -61,22 +66,27 @@ with_op d =
     arrow d x ∷ annotation d x ∷ updates (one_update x (one_key (key "x")) d)
     ∷ updates (more_updates (one_update x (one_key (key "x")) x) (one_key (key "x")) d) ∷ []
 
+-- trees in which this one is the function of an application
 abbrev with_app : Derivation → List Derivation
 with_app d = application d x ∷ []
 
+-- trees in which this one is an argument, or another part that needs level 15
 abbrev with_imp : Derivation → List Derivation
 with_imp d =
     application x d ∷ merging d x ∷ merging x d ∷ some_of d ∷ to_map d ∷ merge_as d x x ∷ merge_as x d x ∷ to_map_as d x
     ∷ updates (one_update d (one_key (key "x")) x) ∷ []
 
+-- trees in which this one is selected from, or stands on either side of a completion
 abbrev with_sel : Derivation → List Derivation
 with_sel d =
     field d (key "x") ∷ project_none d false ∷ project d false (one_key (key "x")) false ∷ project_by d x
     ∷ operation binary.Complete d x ∷ operation binary.Complete x d ∷ []
 
+-- each of these trees is one of the grammar
 abbrev AllDerived : List Derivation → Type 0
 AllDerived ds = map derived ds ≡ map (λ d. true) ds
 
+-- none of these trees is one of the grammar
 abbrev NoneDerived : List Derivation → Type 0
 NoneDerived ds = map derived ds ≡ map (λ d. false) ds
 

@@ -8,6 +8,7 @@ use Rattle.dh_syntax.specs.Text.Derived.{derived}
 use Rattle.dh_examples.specs.Text.GrammarExamples.{Reads, tokens_of, key, v, node, nat, var, bin, bool}
 use Rattle.dh_syntax.specs.Expressions.Tree.{Name, Term}
 
+-- a record with these labels and these values
 abbrev record_term : List Name → List Term → Term
 record_term xs es = node (ops.Record xs) es
 

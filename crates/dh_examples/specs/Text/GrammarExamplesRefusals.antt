@@ -85,6 +85,7 @@ sums_nest = refl
 
 -- ---- a text without tokens
 
+-- whether a token is not the end
 abbrev not_end : TokenKind → Bool
 not_end kinds.End = false
 not_end _ = true

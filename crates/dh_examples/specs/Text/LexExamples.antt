@@ -20,6 +20,7 @@ utf8 text = encode_utf8_all (codes text)
 abbrev pub spaced : TokenKind → ℕ → ℕ → Token
 spaced kind from to = record { kind = kind; from = from; to = to; gap = true }
 
+-- a token that follows the one before it without a gap, with where it starts and ends
 abbrev pub joined : TokenKind → ℕ → ℕ → Token
 joined kind from to = record { kind = kind; from = from; to = to; gap = false }
 
@@ -28,6 +29,7 @@ abbrev pub kinds_of : List Token → List TokenKind
 kinds_of [] = []
 kinds_of (t ∷ ts) = t.kind ∷ kinds_of ts
 
+-- what the lexer's tokens are without their places, or its fault
 abbrev pub kinds_in : Result (List Token) LexFault → Result (List TokenKind) LexFault
 kinds_in (Ok ts) = Ok (kinds_of ts)
 kinds_in (Err fault) = Err fault
@@ -40,9 +42,11 @@ Reads text tokens = kinds_in (lex (utf8 text)) ≡ Ok (tokens ++ End ∷ [])
 abbrev pub Faults : String → LexFault → Type 0
 Faults text fault = lex (utf8 text) ≡ Err fault
 
+-- the token of a name
 abbrev pub named : String → TokenKind
 named x = Name (codes x)
 
+-- the token of a name in back quotes
 abbrev pub quoted : String → TokenKind
 quoted x = Quoted (codes x)
 

@@ -14,34 +14,44 @@ use Rattle.dh_syntax.specs.declared.tokens.TokenKind.TheVariants as kinds
 use Rattle.dh_examples.specs.Text.LexExamples.{utf8, Reads, spaced, joined, named}
 use Rattle.dh_syntax.specs.Text.Lexing.{lex}
 
+-- the components of a path, as bytes
 abbrev comps : List String → List (List ℕ)
 comps [] = []
 comps (c ∷ cs) = codes c ∷ comps cs
 
+-- the token of a path that starts with `./`
 abbrev here : List String → TokenKind
 here cs = kinds.Path (locs.Here (comps cs))
 
+-- the token of a path that starts with `../`
 abbrev parent : List String → TokenKind
 parent cs = kinds.Path (locs.Parent (comps cs))
 
+-- the token of a path that starts with `~/`
 abbrev home : List String → TokenKind
 home cs = kinds.Path (locs.Home (comps cs))
 
+-- the token of a path that starts with `/`
 abbrev root : List String → TokenKind
 root cs = kinds.Path (locs.Abs (comps cs))
 
+-- an address with this host, these components and a query, if there is one
 abbrev address : String → List String → Option (List ℕ) → Url
 address host cs query = record { host = codes host; comps = comps cs; query = query }
 
+-- the token of an address with http
 abbrev http : String → List String → Option (List ℕ) → TokenKind
 http host cs query = kinds.Url (locs.Http (address host cs query))
 
+-- the token of an address with https
 abbrev https : String → List String → Option (List ℕ) → TokenKind
 https host cs query = kinds.Url (locs.Https (address host cs query))
 
+-- the token of an environment variable
 abbrev environment : String → TokenKind
 environment x = kinds.Environment (codes x)
 
+-- the token of a mark
 abbrev mark : marks.the_data → TokenKind
 mark m = kinds.Mark m
 
@@ -176,10 +186,12 @@ no_environment_names :
 unfolding lex encode_utf8
 no_environment_names = refl
 
+-- sixteen bytes, half a digest
 abbrev digest_bytes : List ℕ
 digest_bytes =
     0x00 ∷ 0x11 ∷ 0x22 ∷ 0x33 ∷ 0x44 ∷ 0x55 ∷ 0x66 ∷ 0x77 ∷ 0x88 ∷ 0x99 ∷ 0xAA ∷ 0xBB ∷ 0xCC ∷ 0xDD ∷ 0xEE ∷ 0xFF ∷ []
 
+-- a digest of the same sixteen bytes twice
 abbrev digest : Digest
 digest = record { 0 = digest_bytes ++ digest_bytes }
 
@@ -195,6 +207,7 @@ a_digest_and_more :
 unfolding lex encode_utf8
 a_digest_and_more = refl
 
+-- eight bytes whose digits count from 0 to F
 abbrev counting : List ℕ
 counting = 0x01 ∷ 0x23 ∷ 0x45 ∷ 0x67 ∷ 0x89 ∷ 0xAB ∷ 0xCD ∷ 0xEF ∷ []
 

@@ -13,6 +13,7 @@ use Rattle.dh_syntax.specs.declared.tokens.TokenKind.TheVariants.{Natural, TextO
 use Rattle.dh_examples.specs.Text.LexExamples.{utf8, spaced, joined, named, Reads}
 use Rattle.dh_syntax.specs.Text.Lexing.{lex}
 
+-- the token of a piece of a text literal
 abbrev piece : String → TokenKind
 piece text = TextPiece (utf8 text)
 

@@ -47,9 +47,11 @@ wide = refl
 
 -- ---- too deep: `((x y) y) .. y`, which opens one expression only
 
+-- a token of this kind, all at one place
 abbrev a_token : TokenKind → Token
 a_token k = record { kind = k; from = 3; to = 4; gap = true }
 
+-- so many arguments `y` before these tokens
 abbrev arguments : ℕ → List Token → List Token
 arguments zero ts = ts
 arguments (suc n) ts = a_token (kinds.Name (codes "y")) ∷ arguments n ts
@@ -61,6 +63,7 @@ too_deep = refl
 deep_but_wrong : parsed_tokens (arguments 502 (record { kind = kinds.Keyword keywords.Then; from = 9; to = 13; gap = true } ∷ a_token kinds.End ∷ [])) ≡ Err (faults.Syntax 9)
 deep_but_wrong = refl
 
+-- 1 for a text that is read, 0 for one that is refused
 abbrev is_read : Result Term ParseFault → ℕ
 is_read (Ok e) = 1
 is_read (Err fault) = 0
@@ -70,10 +73,12 @@ just_deep_enough = refl
 
 -- ---- imports
 
+-- where the imports stand, where a reading was accepted
 abbrev places_of : List Token → Outcome (Placed locating) → List ℕ
 places_of ts (accepted p) = offsets_after ts p.nodes
 places_of ts _ = []
 
+-- where the imports of a text stand, by the reader
 abbrev places : Result (List Token) LexFault → List ℕ
 places (Err fault) = []
 places (Ok ts) = places_of ts (reading_at (placing locating) 0 (need []) ts)
@@ -92,10 +97,12 @@ in_joined_entries = refl
 
 -- ---- nodes
 
+-- where the nodes stand, where a reading was accepted
 abbrev nodes_of : List Token → Outcome (Placed stretching) → Spans
 nodes_of ts (accepted p) = in_text ts p.nodes
 nodes_of ts _ = no_spans
 
+-- where the nodes of a text stand, by the reader
 abbrev nodes : Result (List Token) LexFault → Spans
 nodes (Err fault) = no_spans
 nodes (Ok ts) = nodes_of ts (reading_at (placing stretching) 0 (need []) ts)
@@ -110,9 +117,11 @@ merge_is_one = refl
 
 -- ---- too many open expressions
 
+-- a token of this kind that is empty and at this place
 abbrev token_at : ℕ → TokenKind → Token
 token_at n k = record { kind = k; from = n; to = n; gap = true }
 
+-- so many open brackets before these tokens
 abbrev brackets_before : ℕ → List Token → List Token
 brackets_before zero ts = ts
 brackets_before (suc n) ts = token_at 7 (kinds.Mark BracketOpen) ∷ brackets_before n ts

@@ -16,6 +16,7 @@ starts = (refl, refl, refl)
 ends_early : (start_of nodes (0 ∷ 2 ∷ 1 ∷ []) ≡ 8) × (start_of nodes (1 ∷ 0 ∷ 0 ∷ []) ≡ 16)
 ends_early = (refl, refl)
 
+-- a text of two lines with a `let`
 abbrev text : List ℕ
 text = codes "let a = ./n" ++ (10 ∷ codes "in  a && True")
 

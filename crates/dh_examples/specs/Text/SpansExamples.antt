@@ -13,6 +13,7 @@ use Rattle.dh_examples.specs.Text.GrammarExamples.{tokens_of, fitted, name, key,
 use Rattle.dh_syntax.specs.Text.Lexing.{LexFault}
 use Rattle.dh_syntax.specs.Text.Spans.{Spans, no_spans, spans, joined, spans_of}
 
+-- where the nodes of a text with this tree stand
 abbrev found : Derivation → Result (List Token) LexFault → Spans
 found d (Ok tokens) = spans_of tokens d
 found d (Err fault) = no_spans
@@ -21,6 +22,7 @@ found d (Err fault) = no_spans
 abbrev StandsAt : String → Derivation → Spans → Type 0
 StandsAt text d s = let seen : Result (List TokenKind × Bool) LexFault × Bool × Spans = (fitted d (tokens_of text), derived d, found d (tokens_of text)) in seen ≡ (Ok (map (λ w. w.kind) (text_yield d), true), true, s)
 
+-- the span of a node without parts from one offset to another
 abbrev pub at : ℕ → ℕ → Spans
 at n m = spans n m no_spans
 

@@ -40,9 +40,11 @@ nests_deeper tokens p = p.deep
 
 -- ---- a gap counts where it is needed
 
+-- the end as it is written, with a gap before it or without
 abbrev written : Bool → Written
 written gap = record { kind = kinds.End; gap = gap; depth = 0 }
 
+-- the end as it is read, with a gap before it or without
 abbrev read : Bool → Token
 read gap = record { kind = kinds.End; from = 0; to = 0; gap = gap }
 

@@ -30,13 +30,16 @@ functions =
 abbrev types : List Builtin
 types = builtins.Bool ∷ builtins.Natural ∷ builtins.Integer ∷ builtins.Text ∷ []
 
+-- the built-ins that make a type of a type
 abbrev type_makers : List Builtin
 type_makers = builtins.List ∷ builtins.Optional ∷ []
 
+-- whether a normalised expression is the one that it was
 abbrev is_itself : Term → Answer Term → Bool
 is_itself t (Found f left) = term_eq t f
 is_itself t _ = false
 
+-- whether there is a type, and it is in normal form
 abbrev is_normal_type : Option Term → Bool
 is_normal_type (Some t) = is_itself t (plain_answer names nesting 100 t)
 is_normal_type None = false
@@ -45,6 +48,7 @@ is_normal_type None = false
 abbrev universe_of : Builtin → Option Builtin
 universe_of b = option_and_then as_universe (option_and_then (λ t. type_in (inferred 100 t)) (type_of b))
 
+-- whether the universe is `Type`
 abbrev is_in_type : Option Builtin → Bool
 is_in_type (Some builtins.TypeConst) = true
 is_in_type _ = false
@@ -73,6 +77,7 @@ sort_has_none = refl
 
 -- ---- the types as they are printed
 
+-- the text of a type, where there is one
 abbrev printed : Option Term → List ℕ
 printed (Some t) = text_of t
 printed None = []

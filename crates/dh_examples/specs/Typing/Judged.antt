@@ -9,10 +9,12 @@ use Rattle.dh_syntax.specs.Expressions.Tree.{Term}
 abbrev pub inferred : ℕ → Term → Judgment Term
 inferred units e = infer 100 1000 100 [] units e
 
+-- the type, where one was derived
 abbrev pub type_in : Judgment Term → Option Term
 type_in (Has t left) = Some t
 type_in _ = None
 
+-- the place and the rule, where no type can be derived
 abbrev pub place_in : Judgment Term → Option (List ℕ × ℕ)
 place_in (Ill path rule) = Some (path, rule_number rule)
 place_in _ = None
@@ -29,5 +31,6 @@ refused e = place_in (inferred 1000 e)
 abbrev pub at : List ℕ → ℕ → Option (List ℕ × ℕ)
 at path number = Some (path, number)
 
+-- the rule fails at the root
 abbrev pub at_root : ℕ → Option (List ℕ × ℕ)
 at_root number = at [] number

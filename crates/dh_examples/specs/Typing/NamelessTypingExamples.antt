@@ -10,9 +10,11 @@ use Rattle.dh_syntax.specs.Typing.TypeRules as rule
 use Rattle.dh_examples.specs.Vocabulary.{a, assert, b, bool_type, equivalent, natural_type, one, plus, true_literal, two, type, typed, untyped, var, x, y}
 use Rattle.dh_syntax.specs.Typing.Typing.{typing}
 
+-- typing of an expression whose bound variables are numbers, with bounds that are enough
 abbrev core_inferred : ℕ → Term → Judgment Core
 core_inferred units e = judged_within cores 100 1000 units (typing core_scopes 100 [] (to_core e))
 
+-- typing of an expression without names of binders, with bounds that are enough
 abbrev bare_inferred : ℕ → Term → Judgment Bare
 bare_inferred units e = judged_within bares 100 1000 units (typing bare_scopes 100 [] (bare e))
 
@@ -20,6 +22,7 @@ bare_inferred units e = judged_within bares 100 1000 units (typing bare_scopes 1
 abbrev shadowed : Term
 shadowed = lambda x type (lambda y (var x 0) (lambda x bool_type (var y 0)))
 
+-- `∀(x : Type) → ∀(y : x) → ∀(x : Bool) → x@1`
 abbrev shadowed_type : Term
 shadowed_type = forall x type (forall y (var x 0) (forall x bool_type (var x 1)))
 
@@ -54,6 +57,7 @@ bare_plus = refl
 
 -- ---- types, without their units
 
+-- the type, where one was derived
 abbrev found : {T : Type 0} → Judgment T → Option T
 found (Has t left) = Some t
 found _ = None

@@ -17,12 +17,15 @@ use Rattle.dh_syntax.specs.Typing.TypeRuling.{Known, Typed, No}
 abbrev value : Term → Known Term
 value t = record { normal = None; typed = Some t; universe = Some builtins.TypeConst }
 
+-- a part with a type that is in no universe that is known
 abbrev other : Term → Known Term
 other t = record { normal = None; typed = Some t; universe = None }
 
+-- a part with a normal form and a type in `Kind`
 abbrev normal : Term → Term → Known Term
 normal e t = record { normal = Some e; typed = Some t; universe = Some builtins.Kind }
 
+-- a part with a normal form and no type
 abbrev without_type : Term → Known Term
 without_type e = record { normal = Some e; typed = None; universe = None }
 

@@ -119,12 +119,15 @@ abbrev value_in : Answer Term → Term
 value_in (Found e left) = e
 value_in _ = sort
 
+-- the normal form of an expression with names
 abbrev value : Term → Term
 value e = value_in (plain_answer names nesting 1000 e)
 
+-- the label `name`
 abbrev name : Name
 name = codes "name"
 
+-- the label `role`
 abbrev role : Name
 role = codes "role"
 

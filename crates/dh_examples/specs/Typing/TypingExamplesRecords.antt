@@ -12,6 +12,7 @@ use Rattle.dh_syntax.specs.Expressions.Tree.{Term}
 abbrev both_types : Term
 both_types = record_type ((a, natural_type) ∷ (b, bool_type) ∷ [])
 
+-- `{ a = 1, b = True }`
 abbrev both : Term
 both = record_literal ((a, one) ∷ (b, true_literal) ∷ [])
 

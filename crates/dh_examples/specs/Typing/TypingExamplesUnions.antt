@@ -12,6 +12,7 @@ use Rattle.dh_syntax.specs.Expressions.Tree.{Term}
 abbrev choice : Term
 choice = union (untyped a ∷ typed b ∷ []) (bool_type ∷ [])
 
+-- an alternative `b` of a union that is applied to `True`
 abbrev chosen : Term
 chosen = app (field choice b) true_literal
 

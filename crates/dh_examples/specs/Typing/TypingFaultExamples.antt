@@ -27,6 +27,7 @@ ill_without_units units = (rule.RightSide, 2, (5, (10, 0, refl)), refl)
 spent : IsTypeFault [] 1 (let_in x (plus one one) (var x 0)) fault.Spent
 spent = (3, inl (10, 0, refl))
 
+-- whether the units have run out
 abbrev is_over : Judgment Term → Bool
 is_over IsOver = true
 is_over _ = false
@@ -55,6 +56,7 @@ unused = let_in x (plus (natural (2 ^ 128 - 1)) one) one
 unused_wide : (units : ℕ) → IsTypeFault [] units unused fault.Wide
 unused_wide units = (3, inr (natural_type, (0, 0, (10, 0, refl)), inl (1, 0, (10, refl))))
 
+-- whether a type was derived
 abbrev is_type : Judgment Term → Bool
 is_type (Has t left) = true
 is_type _ = false

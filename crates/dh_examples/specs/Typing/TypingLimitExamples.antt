@@ -48,6 +48,7 @@ purse = refl
 abbrev valued : Term → Term
 valued e = let_in x e one
 
+-- a sum that is too wide for 128 bits
 abbrev too_wide : Term
 too_wide = plus (natural (2 ^ 128 - 1)) one
 

@@ -13,10 +13,12 @@ use Rattle.dh_grammar.specs.Trees.{Open, Front, Shut, finish, Wait, Stack, State
 abbrev pub Text : Type 0
 Text = List Written → List Written
 
+-- the mark `λ` or `∀`
 abbrev pub quantifier_mark : Bool → Mark
 quantifier_mark true = Lambda
 quantifier_mark false = Forall
 
+-- what an open frame has before its place
 abbrev pub open_before : ℕ → Bool → Open → Text
 open_before n g (left l o) r = yield n g l ++ mark n free (Operator o) ∷ r
 open_before n g (applied f) r = yield n g f ++ r
@@ -34,40 +36,50 @@ open_before n g (noted t) r = yield n g t ++ (mark n free Colon ∷ r)
 open_before n g (emptied c) r = mark n g BracketOpen ∷ (separator n c Comma ++ (mark n free BracketClose ∷ mark n free Colon ∷ r))
 open_before n g asserted r = keyword n g keywords.Assert ∷ mark n free Colon ∷ r
 
+-- what stands before the next binding of a let
 abbrev pub let_before : ℕ → Bool → Option Lets → Text
 let_before n g None r = keyword n g keywords.Let ∷ r
 let_before n g (Some ls) r = lets_yield n g ls ++ (keyword n apart keywords.Let ∷ r)
 
+-- what stands before the next item of a list
 abbrev pub items_before : ℕ → Option Items → Text
 items_before n None r = r
 items_before n (Some is) r = items_yield n is ++ (mark n free Comma ∷ r)
 
+-- what stands before the next alternative of a union
 abbrev pub alternatives_before : ℕ → Option Alternatives → Text
 alternatives_before n None r = r
 alternatives_before n (Some as') r = alternatives_yield n as' ++ (mark n free Bar ∷ r)
 
+-- what stands before the next field of a record type
 abbrev pub fields_before : ℕ → Option Fields → Text
 fields_before n None r = r
 fields_before n (Some fs) r = fields_yield n fs ++ (mark n free Comma ∷ r)
 
+-- what stands before the next entry of a record
 abbrev pub entries_before : ℕ → Option Entries → Text
 entries_before n None r = r
 entries_before n (Some es) r = entries_yield n es ++ (mark n free Comma ∷ r)
 
+-- what stands before the next piece of a text
 abbrev pub front_before : ℕ → Front → Text
 front_before n opening r = r
 front_before n (behind cs e) r =
     chunks_yield n cs ++ (token n free kinds.InterpolationOpen ∷ (yield (suc n) free e ++ (token n free kinds.InterpolationClose ∷ r)))
 
+-- `{`, perhaps with a comma, and what follows
 abbrev pub in_braces : ℕ → Bool → Bool → Text
 in_braces n g c r = mark n g BraceOpen ∷ (separator n c Comma ++ r)
 
+-- `<`, perhaps with a bar, and what follows
 abbrev pub in_angles : ℕ → Bool → Bool → Text
 in_angles n g c r = mark n g AngleOpen ∷ (separator n c Bar ++ r)
 
+-- an expression with `.{`, perhaps with a comma, and what follows
 abbrev pub in_projection : ℕ → Bool → Derivation → Bool → Text
 in_projection n g x c r = yield n g x ++ (mark n free Dot ∷ mark n free BraceOpen ∷ (separator n c Comma ++ r))
 
+-- what a frame whose place a token ends has before that place
 abbrev pub shut_before : ℕ → Bool → Shut → Text
 shut_before n g bracket r = mark n g ParenOpen ∷ r
 shut_before n g (domain b w) r = mark n g (quantifier_mark b) ∷ mark n free ParenOpen ∷ name n free w ∷ mark n free Colon ∷ r
@@ -83,6 +95,7 @@ shut_before n g (field_type c fs k) r = in_braces n g c (fields_before n fs (key
 shut_before n g (entry_value c es ks) r = in_braces n g c (entries_before n es (keys_yield n free Dot ks ++ (mark n free Equals ∷ r)))
 shut_before n g (chunk f cs) r = token n g (kinds.TextOpen f) ∷ (chunks_yield n cs ++ (token n free kinds.InterpolationOpen ∷ r))
 
+-- what was read of a production before the token that is awaited
 abbrev pub wait_before : ℕ → Bool → Wait → Text
 wait_before n g (quantifier b) r = mark n g (quantifier_mark b) ∷ r
 wait_before n g (quantified b) r = mark n g (quantifier_mark b) ∷ mark n free ParenOpen ∷ r
@@ -115,14 +128,17 @@ wait_before n g (entry_dot c es ks) r = in_braces n g c (entries_before n es (ke
 wait_before n g (text_front f cs) r = token n g (kinds.TextOpen f) ∷ front_before n cs r
 wait_before n g (text_piece f cs) r = token n g (kinds.TextOpen f) ∷ (chunks_yield n cs ++ r)
 
+-- the tokens read for the frames of a stack
 abbrev pub before_stack : Stack → Text
 before_stack [] r = r
 before_stack («open» f ∷ st) r = before_stack st (open_before (depth_on st) (gap_on st) f r)
 before_stack (shut f ∷ st) r = before_stack st (shut_before (depth_on st) (gap_on st) f r)
 
+-- what was read where a stack has this tree in its topmost place
 abbrev pub before_with : Stack → Derivation → Text
 before_with st x r = before_stack st (yield (depth_on st) (gap_on st) x ++ r)
 
+-- the tokens that a state has read
 abbrev pub before : State → Text
 before (need st) r = before_stack st r
 before (have st h) r = before_with st (finish h) r

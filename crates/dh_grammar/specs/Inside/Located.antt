@@ -13,6 +13,7 @@ use Rattle.dh_grammar.specs.Trees.{Open, Front, Shut, Held, Wait, Stack, State}
 abbrev pub inside : Bool → ℕ → ℕ
 inside c i = suc (skip (if_there c) i)
 
+-- a function that knows an offset, on what is there if anything is
 abbrev pub some_at : {X Y : Type 0} → (ℕ → X → Y) → ℕ → Option X → Option Y
 some_at f i None = None
 some_at f i (Some x) = Some (f i x)

@@ -27,6 +27,7 @@ abbrev pub sound : Before → List TokenKind → Bool
 sound b [] = true
 sound b (k ∷ ks) = good_kind k && (not (is_wide_index b k) && sound (before_after k b) ks)
 
+-- the kinds of tokens that were written
 abbrev pub written_kinds : List Written → List TokenKind
 written_kinds [] = []
 written_kinds (w ∷ ws) = w.kind ∷ written_kinds ws

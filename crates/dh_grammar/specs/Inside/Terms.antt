@@ -15,56 +15,70 @@ pub record Operand : Type 0 where
   pub expression : Term
   pub level : ℕ
 
+-- one binding of a let: its label, its annotation if it has one, and its value
 pub record Binding : Type 0 where
   pub name : Name
   pub annotation : Option Term
   pub value : Term
 
+-- the pieces of a text and the expressions between them
 pub record Texts : Type 0 where
   pub pieces : List (List ℕ)
   pub interpolations : List Term
 
+-- what the machine holds where it makes plain expressions
 abbrev pub term_sorts : Sorts
 term_sorts = record { tree = Operand; note = Option Term; lets = List Binding; chunks = Texts; items = List Term; alternatives = List (Name × Option Term); fields = List (Name × Term); entry = Name × Term; entries = List (Name × Term) }
 
+-- an expression that binds this tightly
 abbrev pub at : ℕ → Term → Operand
 at n e = record { expression = e; level = n }
 
+-- a node over these parts that binds this tightly
 abbrev pub node : ℕ → Op → List Term → Operand
 node n op es = at n (Node op (parts es))
 
+-- a let of one binding
 abbrev pub let_of : Binding → Term → Term
 let_of b e = let_term b.name b.annotation b.value e
 
+-- a let of these bindings around an expression
 abbrev pub around : List Binding → Term → Term
 around [] e = e
 around (b ∷ bs) e = let_of b (around bs e)
 
+-- a function, or a function type
 abbrev pub quantify : Bool → NameToken → Operand → Operand → Operand
 quantify true w a b = at 0 (Node ops.Lam (kid None a.expression (kid (Some (name_label w)) b.expression end)))
 quantify false w a b = at 0 (Node ops.Pi (kid None a.expression (kid (Some (name_label w)) b.expression end)))
 
+-- a node with an annotation, which `merge` and `toMap` take in
 abbrev pub note_on : Op → Term → Term → Term
 note_on (ops.Merge false) (Node op r) a = Node (ops.Merge true) (and_part r a)
 note_on (ops.ToMap false) (Node op r) a = Node (ops.ToMap true) (and_part r a)
 note_on _ e a = Node ops.Annot (parts (e ∷ a ∷ []))
 
+-- an expression with an annotation
 abbrev pub annotated : Term → Term → Term
 annotated (Node op r) a = note_on op (Node op r) a
 annotated e a = Node ops.Annot (parts (e ∷ a ∷ []))
 
+-- an expression with an annotation, which `merge` and `toMap` take in where they may
 abbrev pub noted_if : Bool → Term → Term → Term
 noted_if true e a = annotated e a
 noted_if false e a = Node ops.Annot (parts (e ∷ a ∷ []))
 
+-- bindings with one more at their end
 abbrev pub add_let : Option (List Binding) → NameToken → Option Term → Operand → List Binding
 add_let None w a v = record { name = name_label w; annotation = a; value = v.expression } ∷ []
 add_let (Some bs) w a v = bs ++ record { name = name_label w; annotation = a; value = v.expression } ∷ []
 
+-- items with one more at their end
 abbrev pub add_item : Option (List Term) → Operand → List Term
 add_item None x = x.expression ∷ []
 add_item (Some es) x = es ++ x.expression ∷ []
 
+-- how plain expressions are made of what was read
 abbrev pub terms : Making term_sorts
 terms = record {
   binds = λ x. x.level;

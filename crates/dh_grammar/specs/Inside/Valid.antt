@@ -6,6 +6,7 @@ use Rattle.dh_syntax.specs.Expressions.Levels.{left_level}
 use Rattle.dh_grammar.specs.Machine.{left, applied, merged, somed, mapped, update, body, target, otherwise, bound, noted, emptied, asserted, opening, behind, bracket, domain, condition, branch, let_type, let_value, selected, first, items, alternative_type, field_type, entry_value, chunk, «open», shut, quantifier, quantified, quantity, domained, asserting, letting, lettered, with_start, with_keys, with_dot, moded, dotted, projecting, projected, projected_comma, empty, alternative, alternative_bar, field_comma, field_key, entry_comma, entry_keys, entry_dot, text_front, text_piece, need, have, wait, done, stopped}
 use Rattle.dh_grammar.specs.Trees.{Open, Front, Shut, finish, Wait, Stack, State, least, level, shut_level}
 
+-- the tree is one that the grammar derives
 abbrev pub D : Derivation → Type 0
 D x = IsTrue (derived x)
 
@@ -14,6 +15,7 @@ abbrev pub is_base : Derivation → Bool
 is_base (updates us) = true
 is_base x = is_imp x
 
+-- the parts of an open frame are derived, and bind as tightly as their places ask
 abbrev pub OpenOk : Open → Type 0
 OpenOk (left l o) = D l × (left_level o ≤ binds l)
 OpenOk (applied f) = D f × (14 ≤ binds f)
@@ -29,14 +31,17 @@ OpenOk (noted t) = D t × (1 ≤ binds t)
 OpenOk (emptied c) = ⊤
 OpenOk asserted = ⊤
 
+-- the bindings so far are derived
 abbrev pub LetsOk : Option Lets → Type 0
 LetsOk None = ⊤
 LetsOk (Some ls) = IsTrue (lets_derived ls)
 
+-- the items so far are derived
 abbrev pub ItemsOk : Option Items → Type 0
 ItemsOk None = ⊤
 ItemsOk (Some is) = IsTrue (items_derived is)
 
+-- the entries so far are derived
 abbrev pub EntriesOk : Option Entries → Type 0
 EntriesOk None = ⊤
 EntriesOk (Some es) = IsTrue (entries_derived es)
@@ -46,14 +51,17 @@ abbrev pub AlternativesOk : Option Alternatives → Key → Type 0
 AlternativesOk None k = ⊤
 AlternativesOk (Some as') k = IsTrue (alternatives_derived as') × IsTrue (not (among (key_label k) (alternative_labels as')))
 
+-- the fields so far are derived, and the label is new among them
 abbrev pub FieldsOk : Option Fields → Key → Type 0
 FieldsOk None k = ⊤
 FieldsOk (Some fs) k = IsTrue (fields_derived fs) × IsTrue (not (among (key_label k) (field_labels fs)))
 
+-- the chunks and the interpolation so far are derived
 abbrev pub FrontOk : Front → Type 0
 FrontOk opening = ⊤
 FrontOk (behind cs e) = IsTrue (chunks_derived cs) × D e
 
+-- the parts of a frame that a token ends are derived
 abbrev pub ShutOk : Shut → Type 0
 ShutOk bracket = ⊤
 ShutOk (domain b w) = ⊤
@@ -69,6 +77,7 @@ ShutOk (field_type c fs k) = FieldsOk fs k
 ShutOk (entry_value c es ks) = EntriesOk es
 ShutOk (chunk f cs) = IsTrue (chunks_derived cs)
 
+-- how tightly the tree of an awaited token's production binds
 abbrev pub wait_level : Wait → ℕ
 wait_level (quantifier b) = 0
 wait_level (quantified b) = 0
@@ -88,6 +97,7 @@ wait_level (projected_comma x c ks) = 16
 wait_level (empty c) = 0
 wait_level _ = 17
 
+-- the parts read before an awaited token are derived
 abbrev pub WaitOk : Wait → Type 0
 WaitOk (domained b w a) = D a
 WaitOk (letting ls) = LetsOk ls
@@ -110,6 +120,7 @@ WaitOk (text_front f cs) = FrontOk cs
 WaitOk (text_piece f cs) = IsTrue (chunks_derived cs)
 WaitOk _ = ⊤
 
+-- each frame of the stack is derived so far and may stand where it does
 abbrev pub StackOk : Stack → Type 0
 StackOk [] = ⊤
 StackOk («open» f ∷ st) = (least st ≤ level f) × OpenOk f × StackOk st
@@ -122,6 +133,7 @@ pub record Holds (k : ℕ) (st : Stack) (x : Derivation) : Type 0 where
   pub stands : least st ≤ binds x
   pub tight : k ≤ binds x
 
+-- what holds of each state that the machine reaches
 abbrev pub Valid : State → Type 0
 Valid (need st) = StackOk st
 Valid (have st h) = Holds 15 st (finish h)

@@ -9,12 +9,15 @@ use Rattle.dh_grammar.specs.Trees.{trees}
 use Rattle.dh_grammar.specs.Reading.{Outcome, accepted, unfinished, refused, nested, reading}
 use Rattle.dh_grammar.specs.Running.{IsRunning, steps, spelled}
 
+-- the machine accepts tokens with a tree exactly where the grammar derives them by it
 abbrev pub Accepts : Type 0
 Accepts = (ts : List Token) (d : Derivation) → (steps (need []) ts ≡ done d) ↔ Derives ts d
 
+-- tokens have one derivation at most
 abbrev pub DerivationIsUnique : Type 0
 DerivationIsUnique = (ts : List Token) (d e : Derivation) → Derives ts d → Derives ts e → d ≡ e
 
+-- the machine still runs exactly where the tokens begin something that is derived
 abbrev pub NoDeadStates : Type 0
 NoDeadStates = (ts : List Token) → IsRunning (steps (need []) ts) ↔ IsPrefixOfDerived ts
 
@@ -22,6 +25,7 @@ NoDeadStates = (ts : List Token) → IsRunning (steps (need []) ts) ↔ IsPrefix
 abbrev pub KnowsDepths : Type 0
 KnowsDepths = (ts : List Token) (d : Derivation) → Derives ts d → text_yield d ≡ spelled (need []) ts
 
+-- where tokens go on, the tree that is read knows whether too many expressions stand open
 abbrev pub KnowsNesting : Type 0
 KnowsNesting = (ts : List Token) → IsRunning (steps (need []) ts) → IsTrue (opens_too_many (spelled (need []) ts)) ↔ OpensTooMany ts
 
@@ -33,5 +37,6 @@ OutcomeIsRight ts (refused offset) = StopsAt ts offset
 OutcomeIsRight ts nested = StopsNested ts
 OutcomeIsRight ts unfinished = IsPrefixOfDerived ts × ((d : Derivation) → Derives ts d → ⊥)
 
+-- the outcome of reading is the right one for any tokens
 abbrev pub FirstFault : Type 0
 FirstFault = (ts : List Token) → OutcomeIsRight ts (reading trees (need []) ts)

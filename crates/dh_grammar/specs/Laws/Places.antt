@@ -33,6 +33,7 @@ ReadsStretches =
 abbrev pub HasOffsets : Type 0
 HasOffsets = (bytes : List ℕ) (e : Term) → Spells bytes e → (places : List ℕ) × SpellsWith bytes e places
 
+-- the imports of a text stand in one way only
 abbrev pub OffsetsAreUnique : Type 0
 OffsetsAreUnique = (bytes : List ℕ) (e f : Term) (p q : List ℕ) → SpellsWith bytes e p → SpellsWith bytes f q → p ≡ q
 
@@ -40,5 +41,6 @@ OffsetsAreUnique = (bytes : List ℕ) (e f : Term) (p q : List ℕ) → SpellsWi
 abbrev pub HasStretches : Type 0
 HasStretches = (bytes : List ℕ) (e : Term) → Spells bytes e → (s : Spans) × SpellsAt bytes e s
 
+-- the nodes of a text's expression stand in one way only
 abbrev pub StretchesAreUnique : Type 0
 StretchesAreUnique = (bytes : List ℕ) (e f : Term) (s t : Spans) → SpellsAt bytes e s → SpellsAt bytes f t → s ≡ t

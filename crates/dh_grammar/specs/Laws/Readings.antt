@@ -27,17 +27,21 @@ GoesOn {K} m =
 
 -- ---- the same, where what a step makes depends on the number of the token that it reads
 
+-- a token without the white space that it needs ends a reading with a fault at it
 abbrev pub LacksGapAt : {K : Sorts} → (ℕ → Making K) → Type 0
 LacksGapAt {K} m = (n : ℕ) (s : State K) (t : Token) (ts : List Token) → (not (gap_at s t.kind) || t.gap) ≡ false → reading_at m n s (t ∷ ts) ≡ refused t.from
 
+-- a token that cannot stand where it is ends a reading with a fault at it
 abbrev pub CannotStandAt : {K : Sorts} → (ℕ → Making K) → Type 0
 CannotStandAt {K} m = (n : ℕ) (s : State K) (t : Token) (ts : List Token) → after (m n) t.kind s ≡ stopped → reading_at m n s (t ∷ ts) ≡ refused t.from
 
+-- a token at which too many expressions stand open ends a reading with that fault
 abbrev pub OpensTooManyAt : {K : Sorts} → (ℕ → Making K) → Type 0
 OpensTooManyAt {K} m =
     (n : ℕ) (s : State K) (t : Token) (ts : List Token) (on : State K) → Within s → (not (gap_at s t.kind) || t.gap) ≡ true → after (m n) t.kind s ≡ on → runs_still on ≡ true → opens_many s t.kind ≡ true
     → reading_at m n s (t ∷ ts) ≡ nested
 
+-- a token that can stand where it is, with its white space and few enough open, is read over
 abbrev pub GoesOnAt : {K : Sorts} → (ℕ → Making K) → Type 0
 GoesOnAt {K} m =
     (n : ℕ) (s : State K) (t : Token) (ts : List Token) (on : State K) → Within s → (not (gap_at s t.kind) || t.gap) ≡ true → after (m n) t.kind s ≡ on → runs_still on ≡ true → opens_many s t.kind ≡ false

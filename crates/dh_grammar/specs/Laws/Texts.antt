@@ -11,9 +11,11 @@ use Rattle.dh_syntax.specs.Expressions.Values.{IsInRange}
 abbrev pub Parses : Type 0
 Parses = (bytes : List ℕ) → ParsesTo bytes (parsed bytes)
 
+-- a text parses to one answer only
 abbrev pub ParsesOnce : Type 0
 ParsesOnce = (bytes : List ℕ) (q r : Result Term ParseFault) → ParsesTo bytes q → ParsesTo bytes r → q ≡ r
 
+-- a text spells one expression at most
 abbrev pub SpellingIsUnique : Type 0
 SpellingIsUnique = (bytes : List ℕ) (e f : Term) → Spells bytes e → Spells bytes f → e ≡ f
 

@@ -52,6 +52,7 @@ AreUniverses ts us found = (k : ℕ) (u : Option Builtin) → universe_found fou
 
 -- ---- debts
 
+-- what a frame on the stack awaits, and what follows once that is answered
 pub data Debt : Type 0 where
   -- the part with this number is typed, and this follows from its type
   Part : ℕ → (Core → Family) → Debt

@@ -13,9 +13,11 @@ use Rattle.dh_infer.specs.Inside.Levels.{IsOf, AreOf}
 abbrev pub IsTypeOf : (ℕ → Core) → List ℕ → ℕ → ℕ → Type 0
 IsTypeOf g ls c t = IsOf (length (map g ls)) (g c) × HasFound (whole (map g ls) (g c)) (g t)
 
+-- the fact is true: its code has its type, where the numbered variables have the types that it records
 abbrev pub IsFact : (ℕ → Core) → Fact → Type 0
 IsFact g f = IsTypeOf g (reverse f.levels.items) f.code f.typed
 
+-- each of these facts is true
 abbrev pub AreFacts : (ℕ → Core) → List Fact → Type 0
 AreFacts g [] = Unit {0}
 AreFacts g (f ∷ fs) = IsFact g f × AreFacts g fs

@@ -10,6 +10,7 @@ use Rattle.dh_norm.specs.References.{Apart, renamer, opened}
 abbrev pub with_letter : Name → Name
 with_letter x = 120 ∷ x
 
+-- the reference with one letter more in front of its name, if it is free
 abbrev pub lettered_ref : Ref → Ref
 lettered_ref (Bound i) = Bound i
 lettered_ref (Free x n) = Free (with_letter x) n
@@ -26,17 +27,21 @@ without_letter x y h = cc
 both-equal : (x y : Name) (m n : ℕ) → x ≡ y → m ≡ n → Free x m ≡ Free y n
 both-equal x y m n p q = cc
 
+-- different references stay different with the letter in front
 pub lettered-apart : (r s : Ref) → lettered_ref r ≡ lettered_ref s → r ≡ s
 lettered-apart (Bound i) (Bound j) h = h
 lettered-apart (Bound i) (Free y n) h = absurd cc
 lettered-apart (Free x m) (Bound j) h = absurd cc
 lettered-apart (Free x m) (Free y n) h = both-equal x y m n (without_letter x y (name-of _ _ _ _ h)) (number-of _ _ _ _ h)
 
+-- the renaming that puts a letter in front of the name of each free variable
 abbrev pub lettering : Apart
 lettering = record { fun = lettered_ref; apart = lettered-apart }
 
+-- the expression with a letter in front of the name of each free variable
 abbrev pub lettered : Core → Core
 lettered e = opened lettering e
 
+-- the row with a letter in front of the name of each free variable
 abbrev pub lettered_row : Row Ref Name → Row Ref Name
 lettered_row r = moved_row renamer lettering r

@@ -45,6 +45,7 @@ past_level-apart n (Free (b ∷ x) l) (Free (c ∷ y) m) h = h
 
 -- ---- one more binder above, and one more variable from the number n on
 
+-- a bound variable is one binder further out, and numbers from n on are one greater
 abbrev pub moving_ref : ℕ → Ref → Ref
 moving_ref n (Bound i) = Bound (suc i)
 moving_ref n (Free x m) = past_level n (Free x m)
@@ -53,12 +54,14 @@ free-bound : {P : Type 0} (n i : ℕ) (x : Name) (m : ℕ) → past_level n (Fre
 free-bound n i [] m h = absurd cc
 free-bound n i (b ∷ x) m h = absurd cc
 
+-- different references stay different when they are moved
 pub moving-apart : (n : ℕ) (r s : Ref) → moving_ref n r ≡ moving_ref n s → r ≡ s
 moving-apart n (Bound i) (Bound j) h = ap Bound (index-before i j (index-of _ _ h))
 moving-apart n (Bound i) (Free x m) h = free-bound n (suc i) x m (sym h)
 moving-apart n (Free x m) (Bound j) h = free-bound n (suc j) x m h
 moving-apart n (Free x l) (Free y m) h = past_level-apart n (Free x l) (Free y m) h
 
+-- the renaming for one more binder above and one more variable from the number n on
 abbrev pub moving : ℕ → Apart
 moving n = record { fun = moving_ref n; apart = moving-apart n }
 
@@ -77,6 +80,7 @@ AreOf (t ∷ ts) = IsOf (length ts) t × AreOf ts
 
 -- ---- the variable of the nearest binder gets the number n, and those that had it or a greater one get one more
 
+-- the variable of the nearest binder becomes that of number n, and numbers from n on are one greater
 abbrev pub entering_ref : ℕ → Ref → Ref
 entering_ref n (Bound zero) = level n
 entering_ref n (Bound (suc i)) = Bound i
@@ -86,6 +90,7 @@ level-past : {P : Type 0} (n : ℕ) (x : Name) (m : ℕ) → level n ≡ past_le
 level-past n [] m h = let e = number-of _ _ _ _ h in absurd (grind (arith, nat_tests))
 level-past n (b ∷ x) m h = let e = name-of _ _ _ _ h in absurd cc
 
+-- different references stay different when a binder is entered
 pub entering-apart : (n : ℕ) (r s : Ref) → entering_ref n r ≡ entering_ref n s → r ≡ s
 entering-apart n (Bound zero) (Bound zero) h = λ i. Bound zero
 entering-apart n (Bound zero) (Bound (suc j)) h = absurd cc
@@ -97,5 +102,6 @@ entering-apart n (Bound (suc i)) (Free x m) h = free-bound n i x m (sym h)
 entering-apart n (Free x m) (Bound (suc j)) h = free-bound n j x m h
 entering-apart n (Free x l) (Free y m) h = past_level-apart n (Free x l) (Free y m) h
 
+-- the renaming that gives the variable of the nearest binder the number n
 abbrev pub entering : ℕ → Apart
 entering n = record { fun = entering_ref n; apart = entering-apart n }

@@ -60,11 +60,13 @@ outer_scope (frames.ForallRange u) es = drop 1 es
 outer_scope (frames.LetBody k) es = drop 1 es
 outer_scope f es = es
 
+-- the types of the numbered variables that are known below a frame
 abbrev pub outer_levels : Frame → List ℕ → List ℕ
 outer_levels (frames.LambdaBody x a n) ls = drop 1 ls
 outer_levels (frames.ForallRange u) ls = drop 1 ls
 outer_levels f ls = ls
 
+-- what each frame on the stack owes, where these binders stand above and the numbered variables have these types
 abbrev pub debts : (ℕ → Core) → List Entry → List ℕ → List Frame → List Debt
 debts g es ls [] = []
 debts g es ls (f ∷ fs) = debt_of g es ls f ∷ debts g (outer_scope f es) (outer_levels f ls) fs
@@ -75,6 +77,7 @@ debts g es ls (f ∷ fs) = debt_of g es ls f ∷ debts g (outer_scope f es) (out
 abbrev pub AreNormals : (ℕ → Core) → List Core → List Core → Found → Type 0
 AreNormals g ts es found = (k c : ℕ) → normal_found found k ≡ Some c → (e : Core) × (slice_get es k ≡ Some e) × HasNormalForm cores e (g c) × IsOf (length ts) (g c)
 
+-- each expression has no variable of a binder that stands above it, and of the numbered ones those below n alone
 abbrev pub AreAllOf : ℕ → List Core → Type 0
 AreAllOf n [] = Unit {0}
 AreAllOf n (e ∷ es) = IsOf n e × AreAllOf n es
@@ -117,17 +120,20 @@ IsFrameSound g es ls (frames.CompletedRecord t r) = IsOf (length (map g ls)) (in
 IsFrameSound g es ls frames.Completion = Unit {0}
 IsFrameSound g es ls (frames.Used i) = i < length es
 
+-- what each frame on the stack speaks of has variables of lower numbers alone
 abbrev pub AreFramesSound : (ℕ → Core) → List Entry → List ℕ → List Frame → Type 0
 AreFramesSound g es ls [] = Unit {0}
 AreFramesSound g es ls (f ∷ fs) = IsFrameSound g es ls f × AreFramesSound g (outer_scope f es) (outer_levels f ls) fs
 
 -- ---- the codes are there
 
+-- the normal forms that were found have codes below n
 pub record AreFoundBelow (n : ℕ) (found : Found) : Type 0 where
   pub first : IfSome found.first (λ c. c < n)
   pub second : IfSome found.second (λ c. c < n)
   pub third : IfSome found.third (λ c. c < n)
 
+-- each code of which a frame speaks is below n
 abbrev pub IsFrameThere : ℕ → Frame → Type 0
 IsFrameThere n (frames.Function a) = a < n
 IsFrameThere n (frames.Argument t a) = (t < n) × (a < n)
@@ -146,6 +152,7 @@ IsFrameThere n (frames.CompletedRecord t r) = (t < n) × (r < n)
 IsFrameThere n frames.Completion = Unit {0}
 IsFrameThere n (frames.Used i) = Unit {0}
 
+-- each code of which the frames on the stack speak is below n
 abbrev pub AreFramesThere : ℕ → List Frame → Type 0
 AreFramesThere n [] = Unit {0}
 AreFramesThere n (f ∷ fs) = IsFrameThere n f × AreFramesThere n fs

@@ -11,5 +11,6 @@ use Rattle.dh_syntax.specs.declared.faults.NormFault.{NormFault}
 abbrev pub Within : Apart → Core → Type 0
 Within s e = (d : Core) × (e ≡ opened s d)
 
+-- the fault may be answered for the expression in place of its normal form, with so many units
 abbrev pub IsLicensedHalt : ℕ → Core → NormFault → Type 0
 IsLicensedHalt units e f = IsLicensed cores nesting units e f

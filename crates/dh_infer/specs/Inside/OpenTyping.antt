@@ -28,6 +28,7 @@ abbrev pub type_at : List Core → Context Ref Name → Ref → Option Core
 type_at ts context (Bound i) = nth_type context i
 type_at ts context (Free x n) = level_type ts (Free x n)
 
+-- the inference of a variable: the type that it has in the context, or that it is unbound
 abbrev pub looking : List Core → ℕ → Context Ref Name → Ref → Inference Core
 looking ts depth context r = given_type (type_at ts context r) rule.UnboundVariable
 
@@ -35,5 +36,6 @@ looking ts depth context r = given_type (type_at ts context r) rule.UnboundVaria
 abbrev pub typing_in : List Core → ℕ → Context Ref Name → Core → Inference Core
 typing_in ts depth context e = typing_over core_scopes (looking ts) depth context e
 
+-- the typing of an expression below no binder, where the numbered variables have these types
 abbrev pub typing_at : List Core → ℕ → Core → Inference Core
 typing_at ts depth e = typing_in ts depth [] e

@@ -30,14 +30,17 @@ use Rattle.dh_infer.specs.Inside.OpenTyping.{typing_in, typing_at}
 
 -- ---- nodes with the rule of a group
 
+-- the operator of a node; a variable has that of application, which is not used
 abbrev pub op_of : Core → Op
 op_of (Node op r) = op
 op_of (Leaf r) = ops.App
 
+-- the expressions, or none where there are none
 abbrev pub those : Option (List Core) → List Core
 those (Some es) = es
 those None = []
 
+-- the parts of a node that stand under no binder, none where one of them does
 abbrev pub bodies_of : Core → List Core
 bodies_of (Node op r) = those (bodies r)
 bodies_of (Leaf r) = []
@@ -47,6 +50,7 @@ abbrev pub reached : {X : Type 0} → Ruling Core → Option X → (X → Ruling
 reached here (Some x) after = after x
 reached here None after = here
 
+-- how far a ruling goes on the normal forms and universes that are known
 abbrev pub reach : Facts Core → Ruling Core → Ruling Core
 reach facts (ruling.Takes t) = ruling.Takes t
 reach facts (ruling.Forms t) = ruling.Forms t
@@ -54,6 +58,7 @@ reach facts (ruling.Refuses r) = ruling.Refuses r
 reach facts (ruling.WithNormal k next) = reached (ruling.WithNormal k next) (facts.normal k) (λ e. reach facts (next e))
 reach facts (ruling.WithUniverse k next) = reached (ruling.WithUniverse k next) (facts.universe k) (λ u. reach facts (next u))
 
+-- the ruling for a node whose parts have these types, by the rules of operators and then of records
 abbrev pub rule_of : Op → List Core → Option (Ruling Core)
 rule_of op us = first_of (operator_ruling core_scopes op us) (record_ruling core_scopes op us)
 

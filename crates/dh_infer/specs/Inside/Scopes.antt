@@ -53,9 +53,11 @@ IsScope g (e ∷ es) ls = Knows g (map g ls) e × behind e.opened g (IsScope g e
 
 -- ---- the codes are there
 
+-- the codes of an entry, its value and its type if known, are below n
 abbrev pub IsEntryThere : ℕ → Entry → Type 0
 IsEntryThere n e = (e.value < n) × IfSome e.typed (λ t. t < n)
 
+-- the codes of each entry are below n
 abbrev pub AreEntriesThere : ℕ → List Entry → Type 0
 AreEntriesThere n [] = Unit {0}
 AreEntriesThere n (e ∷ es) = IsEntryThere n e × AreEntriesThere n es

@@ -17,6 +17,7 @@ use Rattle.dh_infer.specs.Inside.Scopes.{Models}
 abbrev pub IsAtWork : Root → Typer → State → ℕ → Type 0
 IsAtWork root m s units = (g : ℕ → Core) → Models m.codes g → Works g root m s units
 
+-- the code of the type with which the typing ends is below n
 abbrev pub IsEndingThere : ℕ → Ending → Type 0
 IsEndingThere n (endings.Typed t) = t < n
 IsEndingThere n (endings.Failed f) = Unit {0}
@@ -26,6 +27,7 @@ abbrev pub IsAnswer : Root → (ℕ → Core) → ℕ → Ending → Type 0
 IsAnswer root g left (endings.Typed t) = Meets root.0 root.1 (Has (g t) left)
 IsAnswer root g left (endings.Failed f) = (r : Rule) × (f.rule ≡ rule_number r) × Meets root.0 root.1 (Ill (reverse f.path.items) r)
 
+-- the machine has ended, with an answer to the inference and so many units left
 pub record Ends (root : Root) (m : Typer) (left : ℕ) (e : Ending) : Type 0 where
   pub coded : AreCoded m.codes
   pub there : IsEndingThere (count m.codes) e

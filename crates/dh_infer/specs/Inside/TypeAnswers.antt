@@ -11,9 +11,11 @@ use Rattle.dh_syntax.specs.Typing.TypeRules.{Rule, rule_number}
 use Rattle.dh_syntax.specs.Typing.Typing.{typing}
 use Rattle.dh_infer.specs.Inside.Debts.{Lags}
 
+-- this may be answered for the typing of the expression in the empty context, with so many units
 abbrev pub Answers : ℕ → Core → Judgment Core → Type 0
 Answers units e answer = (depth : ℕ) × Lags units (typing core_scopes depth [] e) answer
 
+-- this fault may be answered for the typing of the expression in the empty context, with so many units
 abbrev pub AnswersFault : ℕ → Core → TypeFault → Type 0
 AnswersFault units e (faults.Ill ill) = (r : Rule) × (ill.rule ≡ rule_number r) × Answers units e (Ill ill.path r)
 AnswersFault units e faults.Wide = Answers units e IsWide

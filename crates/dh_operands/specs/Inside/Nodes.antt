@@ -13,6 +13,7 @@ pub record Gathered : Type 0 where
   pub parts : Row Var Name
   pub nests : ℕ
 
+-- no parts, which nest not at all
 abbrev pub nothing : Gathered
 nothing = record { parts = end; nests = 0 }
 
@@ -20,10 +21,12 @@ nothing = record { parts = end; nests = 0 }
 abbrev pub and_part : Gathered → Option Name → Part → Gathered
 and_part g b p = record { parts = g.parts +++ kid b p.expression end; nests = max g.nests (suc p.nests) }
 
+-- the gathered parts with more of them, each under its binder if it has one
 abbrev pub and_parts : Gathered → Parts → Gathered
 and_parts g [] = g
 and_parts g (p ∷ ps) = and_parts (and_part g p.0 p.1) ps
 
+-- what the program has gathered: its parts, and how deep a node of them nests
 abbrev pub gathered_of : Gathering → Gathered
 gathered_of g = record { parts = row_of g.kids; nests = g.nests }
 

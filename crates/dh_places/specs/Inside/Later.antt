@@ -5,6 +5,7 @@ use Rattle.std.specs.Prelude.{ℕ, zero, suc, ◌+◌, ◌*◌, List, [], ◌∷
 abbrev pub position : ℕ → ℕ → ℕ
 position n i = n * 2 + i + 2
 
+-- the numbers of so many later keys of an entry, behind a first one of this number
 abbrev pub later : ℕ → ℕ → List ℕ
 later zero i = []
 later (suc n) i = later n i ++ position n i ∷ []

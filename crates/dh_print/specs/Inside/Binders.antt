@@ -10,10 +10,12 @@ last_binder end = None
 last_binder (kid b e end) = b
 last_binder (kid b e (kid c f r)) = last_binder (kid c f r)
 
+-- the printed name of the variable that a part stands under, if it stands under any
 abbrev pub binder_text : Option Name → List ℕ
 binder_text None = []
 binder_text (Some x) = label x
 
+-- whether a part stands under the name `_`
 abbrev pub is_blank : Option Name → Bool
 is_blank None = false
 is_blank (Some x) = bytes_eq x (codes "_")

@@ -6,6 +6,7 @@ use Rattle.dh_syntax.specs.Expressions.Levels.{level_of}
 use Rattle.dh_syntax.specs.Expressions.Tree.{Row, end, kid, Name, Var}
 use Rattle.dh_syntax.specs.Text.Printed.{annotated, at, layout}
 
+-- how tightly a node binds, by its operator alone
 abbrev pub level_by_op : Op → ℕ
 level_by_op (ops.Builtin b) = 17
 level_by_op (ops.Bool b) = 17

@@ -9,14 +9,17 @@ use Rattle.dh_grammar.specs.Machine.{Stack, State, need, have, wait, stopped, re
 use Rattle.dh_grammar.specs.Making.{Sorts, Making}
 use Rattle.dh_reader.specs.Inside.Tokens.{is_mark, mode_of, natural_of}
 
+-- the state by the mode of an import, and a stop where there is none
 abbrev pub with_mode : {K : Sorts} → (Mode → State K) → Option Mode → State K
 with_mode f None = stopped
 with_mode f (Some m) = f m
 
+-- the state by a number, and a stop where there is none
 abbrev pub with_natural : {K : Sorts} → (ℕ → State K) → Option ℕ → State K
 with_natural f None = stopped
 with_natural f (Some n) = f n
 
+-- this state, but a stop where something is there
 abbrev pub unless_some : {K : Sorts} {A : Type 0} → Option A → State K → State K
 unless_some None s = s
 unless_some (Some a) s = stopped

@@ -10,6 +10,7 @@ use Rattle.dh_syntax.specs.declared.tokens.TokenKind.TheVariants as kinds
 use Rattle.dh_syntax.specs.Expressions.Numbers.{bytes_eq}
 use Rattle.dh_syntax.specs.Expressions.SameTree.{bin_eq, builtin_eq}
 
+-- whether two marks are equal
 abbrev pub mark_eq : Mark → Mark → Bool
 mark_eq ParenOpen ParenOpen = true
 mark_eq ParenClose ParenClose = true
@@ -36,10 +37,12 @@ abbrev pub mark_of : TokenKind → Option Mark
 mark_of (kinds.Mark n) = Some n
 mark_of _ = None
 
+-- whether a mark is there, and is this one
 abbrev pub is_found : Mark → Option Mark → Bool
 is_found m (Some n) = mark_eq m n
 is_found m None = false
 
+-- whether a token is this mark
 abbrev pub is_mark : Mark → TokenKind → Bool
 is_mark m k = is_found m (mark_of k)
 
@@ -49,6 +52,7 @@ mode_of (kinds.Builtin b) = if builtin_eq b builtins.Text then Some modes.Text e
 mode_of (kinds.Name x) = if bytes_eq x (codes "Location") then Some modes.Location else None
 mode_of _ = None
 
+-- the number that a token is, if it is one
 abbrev pub natural_of : TokenKind → Option ℕ
 natural_of (kinds.Natural n) = Some n
 natural_of _ = None

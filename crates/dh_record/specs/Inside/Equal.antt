@@ -17,6 +17,7 @@ use Rattle.dh_syntax.specs.Imports.Keys.{key_eq}
 use Rattle.dh_imports.specs.LastStep as last
 use Rattle.dh_imports.specs.Resolver.{Stage, Has, Meets}
 
+-- whether two faults of parsing are equal
 abbrev pub parse_eq : ParseFault → ParseFault → Bool
 parse_eq (parses.NotUtf8 m) (parses.NotUtf8 n) = m == n
 parse_eq (parses.Syntax m) (parses.Syntax n) = m == n
@@ -27,6 +28,7 @@ parse_eq parses.TooNested parses.TooNested = true
 parse_eq parses.Memory parses.Memory = true
 parse_eq _ _ = false
 
+-- whether two faults of typing are equal
 abbrev pub type_eq : TypeFault → TypeFault → Bool
 type_eq (types.Ill i) (types.Ill j) = bytes_eq i.path j.path && (i.rule == j.rule)
 type_eq types.Wide types.Wide = true
@@ -35,6 +37,7 @@ type_eq types.Deep types.Deep = true
 type_eq types.Memory types.Memory = true
 type_eq _ _ = false
 
+-- whether two limits of normalising are equal
 abbrev pub norm_eq : NormFault → NormFault → Bool
 norm_eq norms.Wide norms.Wide = true
 norm_eq norms.Spent norms.Spent = true
@@ -42,6 +45,7 @@ norm_eq norms.Deep norms.Deep = true
 norm_eq norms.Memory norms.Memory = true
 norm_eq _ _ = false
 
+-- whether two reasons why a key has no value are equal
 abbrev pub why_eq : Why → Why → Bool
 why_eq (whys.Parse f) (whys.Parse g) = parse_eq f g
 why_eq (whys.Typing f) (whys.Typing g) = type_eq f g
@@ -62,12 +66,14 @@ why_eq _ _ = false
 abbrev pub fault_eq : Option Key → Why → Option Key → Why → Bool
 fault_eq a v b w = why_eq v w && option_eq key_eq a b
 
+-- whether two values came from equal origins
 abbrev pub origin_eq : Origin → Origin → Bool
 origin_eq (origins.Fetched a) (origins.Fetched b) = option_eq bytes_eq a b
 origin_eq origins.Cached origins.Cached = true
 origin_eq origins.Made origins.Made = true
 origin_eq _ _ = false
 
+-- whether two items of a last step are equal
 abbrev pub item_eq : last.Item → last.Item → Bool
 item_eq (last.Code e a) (last.Code f b) = term_eq e f && option_eq bytes_eq a b
 item_eq (last.Text x a) (last.Text y b) = bytes_eq x y && option_eq bytes_eq a b

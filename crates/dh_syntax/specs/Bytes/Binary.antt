@@ -46,14 +46,17 @@ pub data Part : Type 0 where
   plain : Encoding → Part
   under : Name → Encoding → Part
 
+-- a part with its binder, if it has one
 abbrev pub part : Option Name → Encoding → Part
 part None f = plain f
 part (Some x) f = under x f
 
+-- a part as an item by itself, without its binder
 abbrev pub part_item : Part → List ℕ
 part_item (plain f) = f.alone
 part_item (under x f) = f.alone
 
+-- each of the parts as an item by itself
 abbrev pub items : List Part → List (List ℕ)
 items ps = map part_item ps
 
@@ -89,6 +92,7 @@ alternatives (a ∷ as') ts = text a.label ++ (elim a.typed [
   | true ↦ elim ts [ [] ↦ [] | (t ∷ ts') ↦ t ++ alternatives as' ts' ]
 ])
 
+-- an Integer as a CBOR number
 abbrev pub integer : ℤ → List ℕ
 integer (pos n) = natural n
 integer (negsuc n) = below_zero n
@@ -98,11 +102,13 @@ abbrev pub digest_item : Option Digest → List ℕ
 digest_item None = null
 digest_item (Some d) = bytes (18 ∷ 32 ∷ d.0)
 
+-- the number of an import's mode in the binary form: Code, Text, Location
 abbrev pub mode_code : Mode → ℕ
 mode_code mode.Code = 0
 mode_code mode.Text = 1
 mode_code mode.Location = 2
 
+-- a text that may be absent, or null
 abbrev pub optional_text : Option (List ℕ) → List ℕ
 optional_text None = null
 optional_text (Some t) = text t
@@ -111,6 +117,7 @@ optional_text (Some t) = text t
 abbrev pub url_items : ℕ → Url → List (List ℕ)
 url_items scheme u = natural scheme ∷ null ∷ text u.host ∷ map text u.comps ++ optional_text u.query ∷ []
 
+-- the scheme of a location and what follows it, as the last items of an import's array
 abbrev pub loc_items : Loc → List (List ℕ)
 loc_items (locs.Http u) = url_items 0 u
 loc_items (locs.Https u) = url_items 1 u
@@ -121,9 +128,11 @@ loc_items (locs.Home cs) = natural 5 ∷ map text cs
 loc_items (locs.Env x) = natural 6 ∷ text x ∷ []
 loc_items locs.Missing = natural 7 ∷ []
 
+-- an import: its digest, its mode and its location
 abbrev pub import_item : Import → List ℕ
 import_item i = array (natural 24 ∷ digest_item i.digest ∷ natural (mode_code i.mode) ∷ loc_items i.loc)
 
+-- a variable: its index alone where its name is `_`, else its name and index
 abbrev pub variable_item : Var → List ℕ
 variable_item v = if bytes_eq v.name (codes "_") then natural v.index else array (text v.name ∷ natural v.index ∷ [])
 
@@ -158,6 +167,7 @@ node (ops.ToMap annotated) ps = single (array (natural 27 ∷ items ps))
 node (ops.With path) (plain e ∷ plain v ∷ []) = single (array (natural 29 ∷ e.alone ∷ array (map text path) ∷ v.alone ∷ []))
 node op ps = single null
 
+-- how an expression is written in the binary form, and the parts of a node
 abbrev mutual
   pub form : Term → Encoding
   form (Leaf v) = single (variable_item v)

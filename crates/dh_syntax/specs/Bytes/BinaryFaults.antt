@@ -86,6 +86,7 @@ pub record Whole (bytes : List ℕ) (e : Term) (after : List ℕ) : Type 0 where
   pub is_expression : expression false item ≡ Some e
   pub within : IsTrue (opens_at_most most_open_items (item_marks item) at_start)
 
+-- a whole expression stands first, and bytes follow it
 pub record BytesLeft (bytes : List ℕ) (at : ℕ) : Type 0 where
   pub e : Term
   pub after : List ℕ
@@ -93,6 +94,7 @@ pub record BytesLeft (bytes : List ℕ) (at : ℕ) : Type 0 where
   pub left : ¬ (after ≡ [])
   pub place : at ≡ offset bytes after
 
+-- the bytes are a whole expression, which nests deeper than the limit
 pub record NestsTooDeep (bytes : List ℕ) : Type 0 where
   pub e : Term
   pub whole : Whole bytes e []

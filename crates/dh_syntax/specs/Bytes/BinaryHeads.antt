@@ -29,6 +29,7 @@ big_endian bs = fold (λ n b. 256 * n + b) 0 bs
 abbrev pub is_known_tag : ℕ → Bool
 is_known_tag t = t == 2 || t == 3 || t == 55799
 
+-- a head, refused where it is a tag that the binary form does not know
 abbrev pub known : Head → Result Head HeadFault
 known h = if h.major == 6 && not (is_known_tag h.value) then Err foreign_tag else Ok h
 
@@ -74,10 +75,12 @@ pub data Mark : Type 0 where
   map : ℕ → Mark
   tag : ℕ → Mark
 
+-- a head with its string, and the bytes after them
 pub record Marked : Type 0 where
   pub mark : Mark
   pub after : List ℕ
 
+-- this head has been read, and these bytes come after it
 abbrev pub marked : Mark → List ℕ → Result Marked HeadFault
 marked m after = Ok (record { mark = m; after = after })
 
@@ -85,6 +88,7 @@ marked m after = Ok (record { mark = m; after = after })
 abbrev pub string_at : (List ℕ → Atom) → Head → Result Marked HeadFault
 string_at kind h = if nat_lt (length h.after) h.value then Err cut else marked (atom (kind (take h.value h.after))) (drop h.value h.after)
 
+-- a head with its string, by its major type
 abbrev pub mark_of : Head → Result Marked HeadFault
 mark_of h =
     if h.major == 0 then marked (atom (unsigned h.value)) h.after
@@ -101,6 +105,7 @@ abbrev pub mark_by : Result Head HeadFault → Result Marked HeadFault
 mark_by (Ok h) = mark_of h
 mark_by (Err f) = Err f
 
+-- the head at the front of the bytes with its string, or why none can be read
 abbrev pub mark_at : List ℕ → Result Marked HeadFault
 mark_at bs = mark_by (head_at bs)
 
@@ -109,6 +114,7 @@ pub record Begun : Type 0 where
   pub marks : List Mark
   pub after : List ℕ
 
+-- one more head before those that follow it, unless these have a fault
 abbrev pub before_begun : Mark → Result Begun HeadFault → Result Begun HeadFault
 before_begun m (Ok b) = Ok (record { marks = m ∷ b.marks; after = b.after })
 before_begun m (Err f) = Err f

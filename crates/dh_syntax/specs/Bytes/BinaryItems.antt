@@ -19,14 +19,17 @@ mutual
     no_pairs : Pairs
     more_pairs : Item → Item → Pairs → Pairs
 
+-- how many items an array has
 abbrev pub item_count : Items → ℕ
 item_count no_items = 0
 item_count (more_items i is) = suc (item_count is)
 
+-- how many pairs a map has
 abbrev pub pair_count : Pairs → ℕ
 pair_count no_pairs = 0
 pair_count (more_pairs k v ps) = suc (pair_count ps)
 
+-- the heads that an item, the items of an array and the pairs of a map are written with
 abbrev mutual
   -- the heads of an item, in their order
   pub item_marks : Item → List Mark
@@ -64,12 +67,14 @@ begun_item (n ∷ ns) = pred n ∷ ns
 abbrev pub opened : ℕ → Open → Open
 opened n ns = closed (n ∷ begun_item ns)
 
+-- what stands open after one more head
 abbrev pub after_mark : Mark → Open → Open
 after_mark (atom a) ns = closed (begun_item ns)
 after_mark (array n) ns = opened n ns
 after_mark (map n) ns = opened (2 * n) ns
 after_mark (tag t) ns = ns
 
+-- what stands open after these heads
 abbrev pub after_marks : List Mark → Open → Open
 after_marks [] ns = ns
 after_marks (m ∷ ms) ns = after_marks ms (after_mark m ns)

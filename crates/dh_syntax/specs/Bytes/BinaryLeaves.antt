@@ -18,27 +18,33 @@ use Rattle.dh_syntax.specs.Expressions.Tree.{Name}
 
 -- what both steps give, where each gives something
 infixl 10 ◌>>=◌
+-- the second step on what the first one gives, or nothing where that gives nothing
 abbrev pub ◌>>=◌ : {A B : Type 0} → Option A → (A → Option B) → Option B
 Some x >>= f = f x
 None >>= f = None
 
+-- a value where it passes a test, else nothing
 abbrev pub check : {A : Type 0} → (A → Bool) → A → Option A
 check test x = if test x then Some x else None
 
 -- ---- items that stand for no expression
 
+-- whether an item is CBOR's null
 abbrev pub is_null : Item → Bool
 is_null (single (simple n)) = n == 22
 is_null _ = false
 
+-- the bytes of an item that is a text string
 abbrev pub characters_of : Item → Option (List ℕ)
 characters_of (single (characters t)) = Some t
 characters_of _ = None
 
+-- the bytes of an item that is a byte string
 abbrev pub octets_of : Item → Option (List ℕ)
 octets_of (single (octets bs)) = Some bs
 octets_of _ = None
 
+-- the number that an item is, where it is an unsigned one by itself
 abbrev pub unsigned_of : Item → Option ℕ
 unsigned_of (single (unsigned n)) = Some n
 unsigned_of _ = None
@@ -49,6 +55,7 @@ spelled test i = do
   t ← characters_of i
   check test t
 
+-- the label that an item is, if it is one
 abbrev pub label_of : Item → Option Name
 label_of i = spelled is_label i
 
@@ -56,6 +63,7 @@ label_of i = spelled is_label i
 abbrev pub named_label : Item → Option Name
 named_label i = spelled (λ x. is_label x && not (bytes_eq x (codes "_"))) i
 
+-- the labels that the items of an array are, if each is one
 abbrev pub labels_of : Items → Option (List Name)
 labels_of no_items = Some []
 labels_of (more_items i is) = do
@@ -94,16 +102,19 @@ bignum beyond bound bs =
     let n = big_endian bs in
     if nat_lt n bound then (if nat_le (length bs) 16 then Some n else None) else within beyond false n
 
+-- the Natural that an item says, by itself or as a positive bignum
 abbrev pub natural_of : Bool → Item → Option ℕ
 natural_of beyond (single (unsigned n)) = Some n
 natural_of beyond (tagged t i) = if t == 2 then (octets_of i >>= bignum beyond (2 ^ 128)) else None
 natural_of beyond _ = None
 
+-- the Integer of a bignum: tag 2 for a positive one, tag 3 for a negative one
 abbrev pub tagged_integer : Bool → ℕ → List ℕ → Option ℤ
 tagged_integer beyond t bs = do
   n ← bignum beyond (2 ^ 127) bs
   if t == 2 then Some (pos n) else if t == 3 then Some (negsuc n) else None
 
+-- the Integer that an item says, by itself or as a bignum
 abbrev pub integer_of : Bool → Item → Option ℤ
 integer_of beyond (single (unsigned n)) = Some (pos n)
 integer_of beyond (single (negative n)) = Some (negsuc n)
@@ -112,16 +123,20 @@ integer_of beyond _ = None
 
 -- ---- imports
 
+-- the digest in a multihash of SHA-256 with its 32 bytes
 abbrev pub hash_of : List ℕ → Option (Option Digest)
 hash_of (a ∷ b ∷ bs) = if a == 0x12 && b == 0x20 && length bs == 32 then Some (Some (record { 0 = bs })) else None
 hash_of _ = None
 
+-- the digest of an import, where null says that there is none
 abbrev pub digest_of : Item → Option (Option Digest)
 digest_of i = if is_null i then Some None else (octets_of i >>= hash_of)
 
+-- the mode of an import by its number
 abbrev pub mode_by : ℕ → Option Mode
 mode_by n = if n == 0 then Some mode.Code else if n == 1 then Some mode.Text else if n == 2 then Some mode.Location else None
 
+-- the mode of an import that an item says
 abbrev pub mode_of : Item → Option Mode
 mode_of i = unsigned_of i >>= mode_by
 
@@ -136,6 +151,7 @@ components_of (i ∷ j ∷ is) = do
   cs ← components_of (j ∷ is)
   Some (c ∷ cs)
 
+-- the query of a URL, where null says that there is none
 abbrev pub query_of : Item → Option (Option (List ℕ))
 query_of i = if is_null i then Some None else (spelled is_query i >>= λ q. Some (Some q))
 
@@ -157,6 +173,7 @@ abbrev pub url_of : List Item → Option Url
 url_of (headers ∷ host ∷ is) = if is_null headers then (spelled is_host host >>= λ h. url_from h is) else None
 url_of _ = None
 
+-- the environment variable of an import, which is all that follows its scheme
 abbrev pub variable_of : List Item → Option (List ℕ)
 variable_of (x ∷ []) = spelled is_environment x
 variable_of _ = None
@@ -179,6 +196,7 @@ location_by n is =
     else if n == 7 then missing_of is
     else None
 
+-- the import that these items say: its digest, its mode, its scheme and what follows that
 abbrev pub import_of : List Item → Option Import
 import_of (d ∷ m ∷ s ∷ is) = do
   digest ← digest_of d

@@ -26,6 +26,7 @@ pub data Value : Type 0 where
   nothing : Value
   holds : Term → Value
 
+-- an entry of a map: its label and its value
 pub record Entry : Type 0 where
   pub name : Name
   pub value : Value
@@ -38,6 +39,7 @@ pub record Part : Type 0 where
   pub boxed : Option Term
   pub entries : Option (List Entry)
 
+-- the expressions that these parts are, if each is one
 abbrev pub terms : List Part → Option (List Term)
 terms [] = Some []
 terms (p ∷ ps) = do
@@ -45,6 +47,7 @@ terms (p ∷ ps) = do
   es ← terms ps
   Some (e ∷ es)
 
+-- these expressions as the parts of a node that binds nothing
 abbrev pub plain_row : List Term → Row Var Name
 plain_row [] = end
 plain_row (e ∷ es) = kid None e (plain_row es)
@@ -59,6 +62,7 @@ node op ps = do
 abbrev pub node_of : Op → ℕ → List Part → Option Term
 node_of op n ps = if length ps == n then node op ps else None
 
+-- the built-in of this name as an expression
 abbrev pub builtin_term : List ℕ → Option Term
 builtin_term t = do
   b ← builtin_of t
@@ -71,6 +75,7 @@ abbrev pub applied : Term → List Term → Term
 applied f [] = f
 applied f (a ∷ as') = applied (Node ops.App (kid None f (kid None a end))) as'
 
+-- an application to one argument or more
 abbrev pub application : List Part → Option Term
 application (f ∷ a ∷ ps) = do
   g ← f.term
@@ -85,6 +90,7 @@ quantified op x type body = do
   b ← body.term
   Some (Node op (kid None a (kid (Some x) b end)))
 
+-- a function or a function type, whose binder is `_` where none is written
 abbrev pub quantifier : Op → List Part → Option Term
 quantifier op (type ∷ body ∷ []) = quantified op (codes "_") type body
 quantifier op (x ∷ type ∷ body ∷ []) = named_label x.item >>= λ y. quantified op y type body
@@ -96,9 +102,11 @@ operators =
     op.Or ∷ op.And ∷ op.Equal ∷ op.NotEqual ∷ op.Plus ∷ op.Times ∷ op.TextAppend ∷ op.ListAppend ∷ op.Combine ∷ op.Prefer
     ∷ op.CombineTypes ∷ op.Fallback ∷ op.Equivalent ∷ op.Complete ∷ []
 
+-- the operator of this code
 abbrev pub operator : ℕ → Option BinOp
 operator n = find (λ o. op_code o == n) operators
 
+-- an operator with its two operands
 abbrev pub operation : List Part → Option Term
 operation (code ∷ ps) = do
   n ← unsigned_of code.item
@@ -128,10 +136,12 @@ abbrev pub held_by : Value → Option (List Term) → Option (List Term)
 held_by nothing others = None
 held_by (holds t) others = others >>= λ ts. Some (t ∷ ts)
 
+-- the expressions that the entries hold, if each holds one
 abbrev pub held : List Entry → Option (List Term)
 held [] = Some []
 held (e ∷ es) = held_by e.value (held es)
 
+-- a record or a record type by its map, each of whose labels has an expression
 abbrev pub fields : (List Name → Op) → List Part → Option Term
 fields op (m ∷ []) = do
   es ← m.entries
@@ -154,15 +164,18 @@ sorted_labels (p ∷ ps) = do
   xs ← sorted_labels ps
   inserted (λ y. y) x xs
 
+-- the projection of an expression to these labels
 abbrev pub projected : Term → List Part → Option Term
 projected e ps = do
   xs ← sorted_labels ps
   Some (Node (ops.Project xs) (kid None e end))
 
+-- the projection of an expression by a type, if one is given, else to labels
 abbrev pub projected_by : Term → Option Term → List Part → Option Term
 projected_by e (Some t) ps = Some (Node ops.ProjectType (kid None e (kid None t end)))
 projected_by e None ps = projected e ps
 
+-- a projection, to labels or by a type
 abbrev pub projection : List Part → Option Term
 projection [] = None
 projection (p ∷ []) = p.term >>= λ e. projected e []
@@ -174,17 +187,21 @@ abbrev pub is_typed : Value → Bool
 is_typed nothing = false
 is_typed (holds t) = true
 
+-- an alternative of a union by its entry
 abbrev pub alternative : Entry → Alt
 alternative e = record { label = e.name; typed = is_typed e.value }
 
+-- one more type before the others, where a value holds it
 abbrev pub types_by : Value → List Term → List Term
 types_by nothing others = others
 types_by (holds t) others = t ∷ others
 
+-- the types of the alternatives that have one
 abbrev pub types : List Entry → List Term
 types [] = []
 types (e ∷ es) = types_by e.value (types es)
 
+-- a union by its map, where null stands for no type
 abbrev pub union : List Part → Option Term
 union (m ∷ []) = do
   es ← m.entries
@@ -210,6 +227,7 @@ pub record Pieces : Type 0 where
   pub pieces : List (List ℕ)
   pub between : List Term
 
+-- the pieces of a text in UTF-8, with an expression between each two
 abbrev pub pieces_of : List Part → Option Pieces
 pieces_of [] = None
 pieces_of (p ∷ []) = do
@@ -221,6 +239,7 @@ pieces_of (p ∷ e ∷ ps) = do
   r ← pieces_of ps
   Some (record { pieces = t ∷ r.pieces; between = f ∷ r.between })
 
+-- a text with its interpolated expressions
 abbrev pub text : List Part → Option Term
 text ps = do
   r ← pieces_of ps
@@ -239,6 +258,7 @@ let_node x false type a b = do
   t ← type
   Some (Node (ops.Let true) (kid None t (kid None a (kid (Some x) b end))))
 
+-- one let with its label, its annotation, its value and its body
 abbrev pub bound : Part → Part → Part → Option Term → Option Term
 bound x type value body = do
   y ← label_of x.item
@@ -246,6 +266,7 @@ bound x type value body = do
   b ← body
   let_node y (is_null type.item) type.term a b
 
+-- nested lets in one array, the body last
 abbrev pub lets : List Part → Option Term
 lets (x ∷ t ∷ a ∷ b ∷ []) = bound x t a b.term
 lets (x ∷ t ∷ a ∷ y ∷ u ∷ ps) = bound x t a (lets (y ∷ u ∷ ps))
@@ -258,6 +279,7 @@ update (e ∷ path ∷ v ∷ []) = do
   node (ops.With ks) (e ∷ v ∷ [])
 update _ = None
 
+-- the expression that an array says whose first item is this number
 abbrev pub row : Bool → ℕ → List Part → Option Term
 row beyond n ps =
     if n == 0 then application ps
@@ -300,6 +322,7 @@ abbrev pub array_by : Bool → Option ℕ → Item → List Part → Option Term
 array_by beyond (Some n) i ps = row beyond n ps
 array_by beyond None i ps = variable beyond i ps
 
+-- the expression that an array says, if it says one
 abbrev pub array_term : Bool → List Part → Option Term
 array_term beyond [] = None
 array_term beyond (p ∷ ps) = array_by beyond (unsigned_of p.item) p.item ps
@@ -313,10 +336,12 @@ atom_term beyond (characters t) = builtin_term t
 atom_term beyond (simple n) = if n == 20 then Some (Node (ops.Bool false) end) else if n == 21 then Some (Node (ops.Bool true) end) else None
 atom_term beyond _ = None
 
+-- the expression of an array that has only one item
 abbrev pub only_term : List Part → Option Term
 only_term (p ∷ []) = p.term
 only_term _ = None
 
+-- the value of an entry: nothing for null, else the expression that the item is
 abbrev pub value_of : Item → Option Term → Option Value
 value_of i e = if is_null i then Some nothing else (e >>= λ t. Some (holds t))
 
@@ -328,6 +353,7 @@ entered key value others = do
   es ← others
   inserted (λ e. e.name) (record { name = x; value = v }) es
 
+-- what an item is as a part of an array, and the entries of a map by their labels
 abbrev mutual
   pub part : Bool → Item → Part
   part beyond (single a) = record { item = single a; term = atom_term beyond a; boxed = None; entries = None }

@@ -28,9 +28,11 @@ array items = head 4 (length items) ++ concat items
 abbrev pub map_of : ℕ → List ℕ → List ℕ
 map_of n pairs = head 5 n ++ pairs
 
+-- the null of CBOR
 abbrev pub null : List ℕ
 null = 246 ∷ []
 
+-- false and true in CBOR
 abbrev pub truth : Bool → List ℕ
 truth false = 244 ∷ []
 truth true = 245 ∷ []

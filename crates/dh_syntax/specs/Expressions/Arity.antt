@@ -31,6 +31,7 @@ abbrev pub between : {A B : Type 0} → List (List ℕ) → Row A B → Bool
 between [] r = false
 between (p ∷ ps) r = plain (length ps) r
 
+-- whether a list has an element
 abbrev pub has_some : {A : Type 0} → List A → Bool
 has_some [] = false
 has_some (x ∷ xs) = true
@@ -88,6 +89,7 @@ fits (ops.ToMap false) r = plain 1 r
 fits (ops.ToMap true) r = plain 2 r
 fits (ops.With path) r = has_some path && plain 2 r
 
+-- an expression, and the parts of a node, in which every node has its parts
 abbrev mutual
   -- every node has its parts
   pub IsWellFormed : {A B : Type 0} → Tree A B → Type 0

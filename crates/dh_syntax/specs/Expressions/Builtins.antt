@@ -5,6 +5,7 @@ use Rattle.dh_syntax.specs.declared.operators.Builtin.TheVariants as builtin
 use Rattle.dh_syntax.specs.Expressions.Numbers.{bytes_eq}
 use Rattle.dh_syntax.specs.Expressions.Operators.{builtin_name}
 
+-- all built-ins, without `True` and `False`
 abbrev pub builtins : List Builtin
 builtins =
     builtin.TypeConst ∷ builtin.Kind ∷ builtin.Sort ∷ builtin.Bool ∷ builtin.Natural ∷ builtin.Integer ∷ builtin.Text

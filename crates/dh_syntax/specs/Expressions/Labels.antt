@@ -6,6 +6,7 @@ use Rattle.dh_syntax.specs.Expressions.Numbers.{bytes_eq}
 use Rattle.dh_syntax.specs.Expressions.Order.{before}
 use Rattle.dh_syntax.specs.Expressions.Tree.{Tree, Name}
 
+-- whether a list has no element
 abbrev pub is_empty : {X : Type 0} → List X → Bool
 is_empty [] = true
 is_empty (x ∷ xs) = false
@@ -15,6 +16,7 @@ abbrev pub has_others : {X : Type 0} → List X → Bool
 has_others (x ∷ y ∷ xs) = true
 has_others _ = false
 
+-- whether a label is among these
 abbrev pub has_label : List Name → Name → Bool
 has_label [] x = false
 has_label (y ∷ ys) x = bytes_eq x y || has_label ys x

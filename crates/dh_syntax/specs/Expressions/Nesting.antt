@@ -2,6 +2,7 @@
 use Rattle.std.specs.Prelude.{ℕ, suc, max}
 use Rattle.dh_syntax.specs.Expressions.Tree.{Tree, Row, Leaf, Node, end, kid}
 
+-- how deep an expression nests, and how deep the parts of a node do
 abbrev mutual
   -- 0 for an expression without parts, else one more than the greatest of its parts
   pub nesting : {A B : Type 0} → Tree A B → ℕ

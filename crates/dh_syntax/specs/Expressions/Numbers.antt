@@ -7,14 +7,17 @@ eq zero zero = true
 eq (suc m) (suc n) = eq m n
 eq _ _ = false
 
+-- whether the first number is at most the second
 abbrev pub le : ℕ → ℕ → Bool
 le zero n = true
 le (suc m) zero = false
 le (suc m) (suc n) = le m n
 
+-- whether the first number is less than the second
 abbrev pub lt : ℕ → ℕ → Bool
 lt m n = le (suc m) n
 
+-- one less than a number, 0 for 0
 abbrev pub pred : ℕ → ℕ
 pred zero = zero
 pred (suc n) = n

@@ -18,33 +18,40 @@ use Rattle.dh_syntax.specs.declared.operators.Builtin.TheVariants as builtins
 use Rattle.dh_syntax.specs.Expressions.Numbers.{eq, bytes_eq}
 use Rattle.dh_syntax.specs.Expressions.Tree.{Row, Leaf, Node, end, kid, Name, Var, Term}
 
+-- whether two truth values are equal
 abbrev pub bool_eq : Bool → Bool → Bool
 bool_eq true true = true
 bool_eq false false = true
 bool_eq _ _ = false
 
+-- whether two lists have the same length and the same elements in order, by a test on elements
 abbrev pub list_eq : {A : Type 0} → (A → A → Bool) → List A → List A → Bool
 list_eq same [] [] = true
 list_eq same (a ∷ as') (b ∷ bs) = same a b && list_eq same as' bs
 list_eq same _ _ = false
 
+-- whether both are absent, or both are there and the same by a test
 abbrev pub option_eq : {A : Type 0} → (A → A → Bool) → Option A → Option A → Bool
 option_eq same None None = true
 option_eq same (Some a) (Some b) = same a b
 option_eq same _ _ = false
 
+-- whether two digests have the same bytes
 abbrev pub digest_eq : Digest → Digest → Bool
 digest_eq d e = bytes_eq d.0 e.0
 
+-- whether two imports' modes are equal
 abbrev pub mode_eq : Mode → Mode → Bool
 mode_eq modes.Code modes.Code = true
 mode_eq modes.Text modes.Text = true
 mode_eq modes.Location modes.Location = true
 mode_eq _ _ = false
 
+-- whether two URLs have the same host, components and query
 abbrev pub url_eq : Url → Url → Bool
 url_eq u v = bytes_eq u.host v.host && list_eq bytes_eq u.comps v.comps && option_eq bytes_eq u.query v.query
 
+-- whether two locations are of one kind with the same parts
 abbrev pub loc_eq : Loc → Loc → Bool
 loc_eq (locs.Abs cs) (locs.Abs ds) = list_eq bytes_eq cs ds
 loc_eq (locs.Here cs) (locs.Here ds) = list_eq bytes_eq cs ds
@@ -56,12 +63,15 @@ loc_eq (locs.Env x) (locs.Env y) = bytes_eq x y
 loc_eq locs.Missing locs.Missing = true
 loc_eq _ _ = false
 
+-- whether two imports have the same location, mode and digest
 abbrev pub import_eq : Import → Import → Bool
 import_eq i j = loc_eq i.loc j.loc && mode_eq i.mode j.mode && option_eq digest_eq i.digest j.digest
 
+-- whether two alternatives have the same label, and both have a type or neither
 abbrev pub alt_eq : Alt → Alt → Bool
 alt_eq a b = bytes_eq a.label b.label && bool_eq a.typed b.typed
 
+-- whether two operators are equal
 abbrev pub bin_eq : BinOp → BinOp → Bool
 bin_eq bins.Or bins.Or = true
 bin_eq bins.And bins.And = true
@@ -79,6 +89,7 @@ bin_eq bins.Equivalent bins.Equivalent = true
 bin_eq bins.Complete bins.Complete = true
 bin_eq _ _ = false
 
+-- whether two built-ins are equal
 abbrev pub builtin_eq : Builtin → Builtin → Bool
 builtin_eq builtins.TypeConst builtins.TypeConst = true
 builtin_eq builtins.Kind builtins.Kind = true
@@ -112,6 +123,7 @@ builtin_eq builtins.TextShow builtins.TextShow = true
 builtin_eq builtins.TextReplace builtins.TextReplace = true
 builtin_eq _ _ = false
 
+-- whether two nodes are of one kind with the same values, their parts aside
 abbrev pub op_eq : Op → Op → Bool
 op_eq (ops.Builtin b) (ops.Builtin c) = builtin_eq b c
 op_eq (ops.Bool b) (ops.Bool c) = bool_eq b c
@@ -141,9 +153,11 @@ op_eq (ops.ToMap b) (ops.ToMap c) = bool_eq b c
 op_eq (ops.With xs) (ops.With ys) = list_eq bytes_eq xs ys
 op_eq _ _ = false
 
+-- whether two variables have the same name and index
 abbrev pub var_eq : Var → Var → Bool
 var_eq v w = bytes_eq v.name w.name && eq v.index w.index
 
+-- whether two expressions, or the parts of two nodes, are equal, names of binders included
 abbrev mutual
   pub term_eq : Term → Term → Bool
   term_eq (Leaf v) (Leaf w) = var_eq v w

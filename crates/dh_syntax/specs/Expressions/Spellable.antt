@@ -38,6 +38,7 @@ is_encoded test (suc n) (b ∷ bs) = is_ascii_hexdigit b && is_encoded test n bs
 abbrev pub is_segment : List ℕ → Bool
 is_segment c = is_encoded is_kept_in_url 0 c
 
+-- the query of a URL, as it can stand behind the `?` (`query`)
 abbrev pub is_query : List ℕ → Bool
 is_query q = is_encoded is_query_byte 0 q
 
@@ -64,13 +65,16 @@ abbrev mutual
   after_dot [] = true
   after_dot (b ∷ bs) = (is_ascii_alphanumeric b && after_letter bs) || (b == byte ":" && list_all is_ascii_digit bs)
 
+-- whether a query, if there is one, can be written
 abbrev pub query_spellable : Option (List ℕ) → Bool
 query_spellable None = true
 query_spellable (Some q) = is_query q
 
+-- whether the host, the components and the query of a URL can be written
 abbrev pub url_spellable : Url → Bool
 url_spellable u = is_host u.host && list_all is_segment u.comps && query_spellable u.query
 
+-- whether the components, the URL or the environment variable of a location can be written
 abbrev pub location_spellable : Loc → Bool
 location_spellable (locs.Abs cs) = list_all is_component cs
 location_spellable (locs.Here cs) = list_all is_component cs
@@ -92,10 +96,12 @@ op_spellable (ops.Union alts) = list_all is_label (alt_labels alts)
 op_spellable (ops.With path) = list_all is_label path
 op_spellable _ = true
 
+-- whether the name of a binder, if there is one, can be written
 abbrev pub binder_spellable : Option Name → Bool
 binder_spellable None = true
 binder_spellable (Some x) = is_label x
 
+-- whether the names in an expression, or in the parts of a node, can be spelled
 abbrev mutual
   -- whether every name, index and location in an expression can be spelled
   pub names_spellable : Term → Bool

@@ -10,6 +10,7 @@ use Rattle.dh_syntax.specs.Expressions.Tree.{Tree, Row, Leaf, Node, end, kid, Te
 use Rattle.dh_syntax.specs.Limits.{natural_fits, integer_fits}
 use Rattle.dh_syntax.specs.Text.Characters.{code_at, is_noncharacter}
 
+-- whether every node of an expression, or of the parts of one, passes a test
 abbrev mutual
   -- whether every node passes this test
   pub every : {A B : Type 0} → (Op → Bool) → Tree A B → Bool
@@ -25,6 +26,7 @@ abbrev mutual
 abbrev pub digest_fits : Digest → Bool
 digest_fits d = (length d.0 == 32) && list_all (λ b. nat_lt b 256) d.0
 
+-- whether a digest, if there is one, has 32 bytes
 abbrev pub digest_if : Option Digest → Bool
 digest_if None = true
 digest_if (Some d) = digest_fits d
@@ -36,6 +38,7 @@ op_in_range (ops.Int z) = integer_fits z
 op_in_range (ops.Import i) = digest_if i.digest
 op_in_range _ = true
 
+-- every number of an expression is in its range, and every digest has 32 bytes
 abbrev pub IsInRange : Term → Type 0
 IsInRange e = IsTrue (every op_in_range e)
 
@@ -44,9 +47,11 @@ abbrev pub op_has_text : Op → Bool
 op_has_text (ops.Text ps) = list_all is_utf8 ps
 op_has_text _ = true
 
+-- every piece of text in an expression is UTF-8
 abbrev pub HasText : Term → Type 0
 HasText e = IsTrue (every op_has_text e)
 
+-- an expression's numbers and digests are in range, and its pieces of text are UTF-8
 abbrev pub HasValues : Term → Type 0
 HasValues e = IsInRange e × HasText e
 

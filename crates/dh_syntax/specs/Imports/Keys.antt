@@ -19,6 +19,7 @@ chained at i = record { loc = chain at i.loc; mode = i.mode; digest = i.digest }
 abbrev pub bare : Key → Key
 bare k = record { loc = k.loc; mode = k.mode; digest = None }
 
+-- whether two keys have the same location, mode and digest
 abbrev pub key_eq : Key → Key → Bool
 key_eq j k = loc_eq j.loc k.loc && mode_eq j.mode k.mode && option_eq digest_eq j.digest k.digest
 
@@ -36,6 +37,7 @@ abbrev pub digest_rank : Option Digest → List ℕ
 digest_rank None = []
 digest_rank (Some d) = 0 ∷ d.0
 
+-- no query comes before a query
 abbrev pub query_rank : Option (List ℕ) → List ℕ
 query_rank None = []
 query_rank (Some q) = 0 ∷ q

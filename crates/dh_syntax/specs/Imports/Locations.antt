@@ -19,19 +19,23 @@ Comps = List (List ℕ)
 
 -- ---- canonical locations
 
+-- the components of a path without the file
 abbrev pub folder : Comps → Comps
 folder [] = []
 folder (file ∷ []) = []
 folder (c ∷ d ∷ cs) = c ∷ folder (d ∷ cs)
 
+-- the last component of a path, alone
 abbrev pub file : Comps → Comps
 file [] = []
 file (c ∷ []) = c ∷ []
 file (c ∷ d ∷ cs) = file (d ∷ cs)
 
+-- whether a component is `.`
 abbrev pub is_dot : List ℕ → Bool
 is_dot c = bytes_eq c (codes ".")
 
+-- whether a component is `..`
 abbrev pub is_up : List ℕ → Bool
 is_up c = bytes_eq c (codes "..")
 
@@ -55,9 +59,11 @@ relative [] = locs.Here []
 relative (c ∷ []) = locs.Here (c ∷ [])
 relative (c ∷ d ∷ cs) = if is_up c then locs.Parent (d ∷ cs) else locs.Here (c ∷ d ∷ cs)
 
+-- a URL with its path made canonical
 abbrev pub canon_url : Url → Url
 canon_url u = record { host = u.host; comps = canon_path u.comps; query = u.query }
 
+-- the canonical form of a location
 abbrev pub canon : Loc → Loc
 canon (locs.Abs cs) = locs.Abs (canon_path cs)
 canon (locs.Here cs) = relative (canon_path cs)
@@ -109,6 +115,7 @@ chain _ child = canon child
 
 -- ---- the two tests on a child
 
+-- whether a location is a URL
 abbrev pub is_remote : Loc → Bool
 is_remote (locs.Http u) = true
 is_remote (locs.Https u) = true
@@ -121,6 +128,7 @@ is_private (locs.Home cs) = true
 is_private (locs.Env x) = true
 is_private _ = false
 
+-- whether an import asks for its location only
 abbrev pub is_location : Mode → Bool
 is_location mode.Location = true
 is_location _ = false
@@ -141,6 +149,7 @@ abbrev pub allows : Option (List ℕ) → List ℕ → Bool
 allows None o = false
 allows (Some a) o = bytes_eq a (codes "*") || bytes_eq a o
 
+-- whether two origins are the same or the first is allowed; true where there is no such pair
 abbrev pub cors_between : Option (List ℕ) → Option (List ℕ) → Option (List ℕ) → Bool
 cors_between (Some p) (Some c) allow = bytes_eq p c || allows allow p
 cors_between _ _ allow = true
@@ -158,9 +167,11 @@ is_path_character c =
     c == 0x21 || is_in_range 0x24 0x27 c || is_in_range 0x2A 0x2B c || is_in_range 0x2D 0x2E c || is_in_range 0x30 0x3B c
     || c == 0x3D || is_in_range 0x40 0x5A c || is_in_range 0x5E 0x7A c || c == 0x7C || c == 0x7E
 
+-- a text between double quotes
 abbrev pub quoted : List ℕ → List ℕ
 quoted t = 34 ∷ t ++ 34 ∷ []
 
+-- a component of a local path, between double quotes where it needs them
 abbrev pub local_component : List ℕ → List ℕ
 local_component c = if has_some c && list_all is_path_character c then c else quoted c
 
@@ -168,13 +179,16 @@ local_component c = if has_some c && list_all is_path_character c then c else qu
 abbrev pub slashed : Comps → List ℕ
 slashed cs = flat_map (λ c. 47 ∷ c) cs
 
+-- the text of a local path: each component after a `/`
 abbrev pub local_text : Comps → List ℕ
 local_text cs = slashed (map local_component cs)
 
+-- a query after its `?`, or nothing
 abbrev pub query_text : Option (List ℕ) → List ℕ
 query_text None = []
 query_text (Some q) = 63 ∷ q
 
+-- the text of a URL behind its scheme
 abbrev pub url_text : Url → List ℕ
 url_text u = u.host ++ slashed u.comps ++ query_text u.query
 
@@ -183,6 +197,7 @@ abbrev pub is_plain_variable : List ℕ → Bool
 is_plain_variable [] = false
 is_plain_variable (c ∷ cs) = not (is_ascii_digit c) && list_all (λ d. is_ascii_alphanumeric d || d == 95) (c ∷ cs)
 
+-- the text of a location, as an import would be written
 abbrev pub loc_text : Loc → List ℕ
 loc_text (locs.Abs cs) = local_text cs
 loc_text (locs.Here cs) = codes "." ++ local_text cs

@@ -40,5 +40,6 @@ alpha e = alpha_to (nesting e) e
 abbrev pub IsSame : Term → Term → Type 0
 IsSame e f = alpha e ≡ alpha f
 
+-- whether two expressions have the same α-normal form, as a test
 abbrev pub same : Term → Term → Bool
 same e f = term_eq (alpha e) (alpha f)

@@ -3,6 +3,7 @@ use Rattle.std.specs.Prelude.{ℕ, ◌+◌, ◌<◌, List, [], ◌∷◌, Option
 use Rattle.dh_syntax.specs.Names.Subst.{under}
 use Rattle.dh_syntax.specs.Expressions.Tree.{Row, Leaf, Node, end, kid, Name, Var, Term}
 
+-- each index in an expression, or in the parts of a node, is below a limit
 abbrev mutual
   -- each index is below a limit
   pub IndicesBelow : ℕ → Term → Type 0
@@ -23,6 +24,7 @@ abbrev pub with_binder : Option Name → List Name → List Name
 with_binder None ys = ys
 with_binder (Some y) ys = y ∷ ys
 
+-- the same limit for indices, raised by the binders of the name that stand above
 abbrev mutual
   -- Each index is below a limit and the number of binders of its name together. Going below binders, substitution and
   -- α-normal forms keep this, so an index grows by no more than the binders above it.

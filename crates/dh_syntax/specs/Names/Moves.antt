@@ -13,6 +13,7 @@ pub record Move (S A B C D : Type 0) : Type 0 where
   -- what stands above the part that a binder is over
   pub enter : S → B → S
 
+-- what a binder becomes, if there is one
 abbrev pub moved_binder : {S A B C D : Type 0} → Move S A B C D → Option B → Option D
 moved_binder m None = None
 moved_binder m (Some x) = Some (m.binder x)
@@ -22,6 +23,7 @@ abbrev pub entered : {S A B C D : Type 0} → Move S A B C D → S → Option B 
 entered m s None = s
 entered m s (Some x) = m.enter s x
 
+-- an expression, and the parts of a node, with the leaves and binders changed
 abbrev mutual
   pub moved : {S A B C D : Type 0} → Move S A B C D → S → Tree A B → Tree C D
   moved m s (Leaf a) = Leaf (m.leaf s a)

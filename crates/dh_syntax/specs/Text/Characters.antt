@@ -76,9 +76,11 @@ is_control b = nat_lt b 0x20
 abbrev pub tab : ℕ
 tab = 0x09
 
+-- the byte of a line feed
 abbrev pub line_feed : ℕ
 line_feed = 0x0A
 
+-- the byte of a carriage return
 abbrev pub carriage_return : ℕ
 carriage_return = 0x0D
 

@@ -37,6 +37,7 @@ abbrev pub name_label : NameToken → Name
 name_label (plain x) = x
 name_label (quoted x) = x
 
+-- the label that a key says: a name, or a built-in name or `Some` taken as one
 abbrev pub key_label : Key → Name
 key_label (name_key w) = name_label w
 key_label (truth_key true) = codes "True"
@@ -44,6 +45,7 @@ key_label (truth_key false) = codes "False"
 key_label (builtin_key b) = builtin_name b
 key_label some_key = codes "Some"
 
+-- the labels of these keys, in the order in which they are written
 abbrev pub labels : Keys → List Name
 labels (one_key k) = key_label k ∷ []
 labels (more_keys ks k) = labels ks ++ key_label k ∷ []

@@ -36,12 +36,15 @@ binds _ = 17
 abbrev pub is_op : Derivation → Bool
 is_op d = nat_le 1 (binds d)
 
+-- whether a tree may stand for an application
 abbrev pub is_app : Derivation → Bool
 is_app d = nat_le 14 (binds d)
 
+-- whether a tree may stand for an import or an argument
 abbrev pub is_imp : Derivation → Bool
 is_imp d = nat_le 15 (binds d)
 
+-- whether a tree may stand for what a selection is made from
 abbrev pub is_sel : Derivation → Bool
 is_sel d = nat_le 16 (binds d)
 
@@ -61,14 +64,17 @@ abbrev pub distinct : Keys → Bool
 distinct (one_key k) = true
 distinct (more_keys ks k) = distinct ks && not (among (key_label k) (labels ks))
 
+-- the labels of a record type, in the order in which they are written
 abbrev pub field_labels : Fields → List Name
 field_labels (one_field k a) = key_label k ∷ []
 field_labels (more_fields fs k a) = field_labels fs ++ key_label k ∷ []
 
+-- the labels of a union's alternatives, in the order in which they are written
 abbrev pub alternative_labels : Alternatives → List Name
 alternative_labels (one_alternative k a) = key_label k ∷ []
 alternative_labels (more_alternatives as' k a) = alternative_labels as' ++ key_label k ∷ []
 
+-- whether the grammar derives a tree, and each kind of piece that trees are made of
 abbrev mutual
   pub derived : Derivation → Bool
   derived (lambda w a b) = derived a && derived b

@@ -22,9 +22,11 @@ put join p (e ∷ es) = cond (bytes_eq p.0 e.0) ((e.0, join e.1 p.1) ∷ es) (co
 abbrev pub insert : {X : Type 0} → Name × X → List (Name × X) → List (Name × X)
 insert p es = put (λ a b. a) p es
 
+-- the labels of entries
 abbrev pub names : {X : Type 0} → List (Name × X) → List Name
 names es = map (λ e. e.0) es
 
+-- what the entries hold
 abbrev pub values : {X : Type 0} → List (Name × X) → List X
 values es = map (λ e. e.1) es
 
@@ -33,20 +35,24 @@ abbrev pub parts : List Term → Row Var Name
 parts [] = end
 parts (e ∷ es) = kid None e (parts es)
 
+-- the variable of this name, whose index is 0 where none is written
 abbrev pub variable_term : Name → Option ℕ → Term
 variable_term x None = Leaf (record { name = x; index = 0 })
 variable_term x (Some i) = Leaf (record { name = x; index = i })
 
+-- a let with its annotation, if there is one, its value and its body
 abbrev pub let_term : Name → Option Term → Term → Term → Term
 let_term x None v e = Node (ops.Let false) (kid None v (kid (Some x) e end))
 let_term x (Some a) v e = Node (ops.Let true) (kid None a (kid None v (kid (Some x) e end)))
 
+-- the location that an import is written with
 abbrev pub location : ImportType → Loc
 location (path l) = l
 location (url l) = l
 location (environment x) = locs.Env x
 location missing = locs.Missing
 
+-- the record with these entries
 abbrev pub record_term : List (Name × Term) → Term
 record_term es = Node (ops.Record (names es)) (parts (values es))
 
@@ -64,10 +70,12 @@ abbrev pub sorted : Keys → List (Name × Unit {0})
 sorted (one_key k) = insert (key_label k, tt) []
 sorted (more_keys ks k) = insert (key_label k, tt) (sorted ks)
 
+-- the alternatives of a union: each label, and whether it has a type
 abbrev pub alternatives_of : List (Name × Option Term) → List Alt
 alternatives_of [] = []
 alternatives_of (a ∷ as') = record { label = a.0; typed = is_some a.1 } ∷ alternatives_of as'
 
+-- one more part before the others, if it is there
 abbrev pub part_if : Option Term → Row Var Name → Row Var Name
 part_if None r = r
 part_if (Some a) r = kid None a r
@@ -77,6 +85,7 @@ abbrev pub types_of : List (Name × Option Term) → Row Var Name
 types_of [] = end
 types_of (a ∷ as') = part_if a.1 (types_of as')
 
+-- a piece of text, empty where it is absent
 abbrev pub piece_of : Option (List ℕ) → List ℕ
 piece_of None = []
 piece_of (Some p) = p
@@ -91,6 +100,7 @@ abbrev pub text_pieces : TextForm → List (List ℕ) → List (List ℕ)
 text_pieces forms.DoubleQuoted ps = ps
 text_pieces forms.MultiLine ps = unindent ps
 
+-- the expression that a derivation tree says, and what each kind of its pieces says
 abbrev mutual
   -- the expression of a tree
   pub meaning : Derivation → Term

@@ -9,6 +9,7 @@ use Rattle.dh_syntax.specs.Text.Derivation.{key_label, Key, Keys, one_key, more_
 use Rattle.dh_syntax.specs.Text.Meaning.{put, insert, values}
 use Rattle.dh_syntax.specs.Expressions.Tree.{Name}
 
+-- a way to note something of the nodes of an expression
 pub record Noting : Type 1 where
   -- what is noted of some nodes in a row
   pub row : Type 0
@@ -34,32 +35,39 @@ skip (suc n) i = suc (skip n i)
 abbrev pub past : {X : Type 0} → ℕ → Over X → Over X
 past n m i = m (skip n i)
 
+-- the same, with so many more tokens behind
 abbrev pub ending : {X : Type 0} → ℕ → Over X → Over X
 ending n m i = let p = m i in (p.0, skip n p.1)
 
 -- ---- numbers of tokens
 
+-- the tokens of a piece that is one token where it is there
 abbrev pub if_there : Bool → ℕ
 if_there true = 1
 if_there false = 0
 
+-- the tokens of these keys with their separators
 abbrev pub keys_len : Keys → ℕ
 keys_len (one_key k) = 1
 keys_len (more_keys ks k) = suc (suc (keys_len ks))
 
+-- the tokens of an import's digest
 abbrev pub digest_len : Option Digest → ℕ
 digest_len None = 0
 digest_len (Some d) = 1
 
+-- the tokens of an import's mode
 abbrev pub mode_len : Mode → ℕ
 mode_len modes.Code = 0
 mode_len modes.Text = 2
 mode_len modes.Location = 2
 
+-- the tokens of a variable's index with its `@`
 abbrev pub index_len : Option ℕ → ℕ
 index_len None = 0
 index_len (Some i) = 2
 
+-- the tokens of a piece of text, none where it is absent
 abbrev pub piece_len : Option (List ℕ) → ℕ
 piece_len None = 0
 piece_len (Some p) = 1
@@ -79,6 +87,7 @@ ends_before (t ∷ ts) (suc (suc i)) = ends_before ts (suc i)
 
 -- ---- parts that are put in another order
 
+-- what belongs to each of some labels
 abbrev pub Labelled : Type 0 → Type 0
 Labelled X = List (Name × X)
 
@@ -92,9 +101,11 @@ abbrev pub later_keys : Keys → ℕ → List ℕ
 later_keys (one_key k) i = []
 later_keys (more_keys ks k) i = later_keys ks i ++ skip 1 (skip (keys_len ks) i) ∷ []
 
+-- one more label and what belongs to it, put among the others in their order
 abbrev pub add_row : {X : Type 0} → Over (Labelled X) → Name → Over X → Over (Labelled X)
 add_row m x k i = let p = m i in let q = k p.1 in (insert (x, q.0) p.0, q.1)
 
+-- no label, and no token read
 abbrev pub no_rows : {X : Type 0} → Over (Labelled X)
 no_rows i = ([], i)
 

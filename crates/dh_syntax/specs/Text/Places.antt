@@ -24,6 +24,7 @@ start_below here parts (k ∷ path) = of_first (from_part k parts) here (λ from
 abbrev pub start_of : Spans → List ℕ → ℕ
 start_of nodes path = of_first nodes 0 (λ from parts. start_below from parts path)
 
+-- whether a byte is a line feed
 abbrev pub is_line_feed : ℕ → Bool
 is_line_feed b = b == 10
 

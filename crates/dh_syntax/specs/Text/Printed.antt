@@ -36,12 +36,15 @@ is_name _ = false
 abbrev pub is_plain_label : Name → Bool
 is_plain_label x = nat_lt 0 (length x) && name_len x == length x && is_name (named x)
 
+-- a label as it is printed, between backticks where it is not a plain one
 abbrev pub label : Name → List ℕ
 label x = if is_plain_label x then x else codes "`" ++ x ++ codes "`"
 
+-- a variable as it is printed, without its index where that is 0
 abbrev pub variable : Var → List ℕ
 variable v = if v.index == 0 then label v.name else label v.name ++ codes "@" ++ write_natural v.index
 
+-- a Bool as it is printed
 abbrev pub truth : Bool → List ℕ
 truth true = codes "True"
 truth false = codes "False"
@@ -52,15 +55,18 @@ truth false = codes "False"
 abbrev pub digest_digits : Digest → List ℕ
 digest_digits d = flat_map (λ b. digit_glyph false (b / 16) ∷ digit_glyph false (b % 16) ∷ []) d.0
 
+-- a digest as it is printed behind a location, or nothing
 abbrev pub digest_text : Option Digest → List ℕ
 digest_text None = []
 digest_text (Some d) = codes " sha256:" ++ digest_digits d
 
+-- the mode of an import as it is printed, nothing for code
 abbrev pub mode_text : Mode → List ℕ
 mode_text mode.Code = []
 mode_text mode.Text = codes " as Text"
 mode_text mode.Location = codes " as Location"
 
+-- an import as it is printed: its location, its digest and its mode
 abbrev pub import_text : Import → List ℕ
 import_text i = loc_text i.loc ++ digest_text i.digest ++ mode_text i.mode
 
@@ -70,24 +76,31 @@ import_text i = loc_text i.loc ++ digest_text i.digest ++ mode_text i.mode
 abbrev pub arrow : List ℕ
 arrow = 0xE2 ∷ 0x86 ∷ 0x92 ∷ []
 
+-- `∀` in UTF-8
 abbrev pub forall : List ℕ
 forall = 0xE2 ∷ 0x88 ∷ 0x80 ∷ []
 
+-- `λ` in UTF-8
 abbrev pub lambda : List ℕ
 lambda = 0xCE ∷ 0xBB ∷ []
 
+-- `∧` in UTF-8
 abbrev pub combine : List ℕ
 combine = 0xE2 ∷ 0x88 ∷ 0xA7 ∷ []
 
+-- `≡` in UTF-8
 abbrev pub equivalent : List ℕ
 equivalent = 0xE2 ∷ 0x89 ∷ 0xA1 ∷ []
 
+-- `⩓` in UTF-8
 abbrev pub combine_types : List ℕ
 combine_types = 0xE2 ∷ 0xA9 ∷ 0x93 ∷ []
 
+-- `⫽` in UTF-8
 abbrev pub prefer : List ℕ
 prefer = 0xE2 ∷ 0xAB ∷ 0xBD ∷ []
 
+-- an operator as it is printed
 abbrev pub op_mark : BinOp → List ℕ
 op_mark op.Equivalent = equivalent
 op_mark op.Fallback = codes "?"
@@ -112,9 +125,11 @@ pub record Layout : Type 0 where
   pub text : List ℕ
   pub bare : Bool
 
+-- an expression of this level and text that is no merge or toMap without annotation
 abbrev pub form : ℕ → List ℕ → Layout
 form level text = record { level = level; text = text; bare = false }
 
+-- a text between parentheses
 abbrev pub bracketed : List ℕ → List ℕ
 bracketed text = codes "(" ++ text ++ codes ")"
 
@@ -126,10 +141,12 @@ at m e = if nat_lt e.level m then bracketed e.text else e.text
 abbrev pub annotated : Layout → List ℕ
 annotated e = if e.bare then bracketed e.text else at 1 e
 
+-- a part of a node as it is printed, which may be under a binder
 pub data Part : Type 0 where
   plain : Layout → Part
   under : Name → Layout → Part
 
+-- a printed part with its binder, if it has one
 abbrev pub part : Option Name → Layout → Part
 part None e = plain e
 part (Some x) e = under x e
@@ -139,6 +156,7 @@ abbrev pub part_text : Part → List ℕ
 part_text (plain e) = at 0 e
 part_text (under x e) = at 0 e
 
+-- each of the parts as any expression is printed
 abbrev pub texts : List Part → List (List ℕ)
 texts ps = map part_text ps
 
@@ -183,24 +201,30 @@ abbrev pub operation : BinOp → Layout → Layout → Layout
 operation op.Complete l r = form 15 (at 16 l ++ codes "::" ++ at 16 r)
 operation o l r = form (level_of o) (at (left_level o) l ++ codes " " ++ op_mark o ++ codes " " ++ at (suc (level_of o)) r)
 
+-- a list with these elements
 abbrev pub list_text : List (List ℕ) → List ℕ
 list_text ts = codes "[ " ++ separated (codes ", ") ts ++ codes " ]"
 
+-- these texts between braces, with commas between them
 abbrev pub braced : List (List ℕ) → List ℕ
 braced ts = codes "{ " ++ separated (codes ", ") ts ++ codes " }"
 
+-- a record type with these labels and types
 abbrev pub record_type_text : List Name → List (List ℕ) → List ℕ
 record_type_text [] ts = codes "{}"
 record_type_text (x ∷ xs) ts = braced (fields (codes " : ") (x ∷ xs) ts)
 
+-- a record with these labels and values, `{=}` where there is none
 abbrev pub record_text : List Name → List (List ℕ) → List ℕ
 record_text [] ts = codes "{=}"
 record_text (x ∷ xs) ts = braced (fields (codes " = ") (x ∷ xs) ts)
 
+-- the labels of a projection between braces
 abbrev pub projection_text : List Name → List ℕ
 projection_text [] = codes "{}"
 projection_text (x ∷ xs) = braced (map label (x ∷ xs))
 
+-- a union with these alternatives and the types of those that have one
 abbrev pub union_text : List Alt → List (List ℕ) → List ℕ
 union_text [] ts = codes "<>"
 union_text (a ∷ as') ts = codes "< " ++ separated (codes " | ") (alternatives (a ∷ as') ts) ++ codes " >"
@@ -244,6 +268,7 @@ node (ops.With path) (plain e ∷ plain v ∷ []) =
     form 0 (at 15 e ++ codes " with " ++ separated (codes ".") (map label path) ++ codes " = " ++ at 1 v)
 node op ps = form 17 []
 
+-- how an expression, and the parts of a node, are printed
 abbrev mutual
   pub layout : Term → Layout
   layout (Leaf v) = form 17 (variable v)

@@ -16,14 +16,17 @@ pub data Spans : Type 0 where
 abbrev pub spans : ℕ → ℕ → Spans → Spans
 spans from to parts = span from to parts no_spans
 
+-- the stretches of some nodes and then those of others
 abbrev pub joined : Spans → Spans → Spans
 joined no_spans b = b
 joined (span from to parts a) b = span from to parts (joined a b)
 
+-- the stretches of the parts of the first node
 abbrev pub parts_of : Spans → Spans
 parts_of no_spans = no_spans
 parts_of (span from to parts rest) = parts
 
+-- the way of noting that keeps the stretch of each node
 abbrev pub stretching : Noting
 stretching = record { row = Spans; none = no_spans; joined = joined; node = spans; import_node = λ from to. spans from to no_spans; parts = parts_of }
 

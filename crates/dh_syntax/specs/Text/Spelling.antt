@@ -15,6 +15,7 @@ use Rattle.dh_syntax.specs.Expressions.Tree.{Term}
 use Rattle.dh_syntax.specs.Limits.{most_bytes, most_open, most_nesting}
 use Rattle.dh_syntax.specs.Text.Yield.{Written, text_yield}
 
+-- the bytes are UTF-8 and no more than a text may have
 abbrev pub IsText : List ℕ → Type 0
 IsText bytes = (length bytes ≤ most_bytes) × IsUtf8 bytes
 
@@ -22,6 +23,7 @@ IsText bytes = (length bytes ≤ most_bytes) × IsUtf8 bytes
 abbrev pub IsToken : Written → Token → Type 0
 IsToken w t = (t.kind ≡ w.kind) × IsTrue (not w.gap || t.gap)
 
+-- the tokens are of those kinds in order, as many, with gaps where they are needed
 abbrev pub AreTokens : List Written → List Token → Type 0
 AreTokens [] [] = ⊤
 AreTokens (w ∷ ws) (t ∷ ts) = IsToken w t × AreTokens ws ts

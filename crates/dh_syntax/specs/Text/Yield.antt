@@ -26,6 +26,7 @@ pub record Written : Type 0 where
 abbrev pub apart : Bool
 apart = true
 
+-- white space may stand before a token, but need not
 abbrev pub free : Bool
 free = false
 
@@ -33,28 +34,35 @@ free = false
 abbrev pub token : ℕ → Bool → TokenKind → Written
 token n g k = record { kind = k; gap = g; depth = n }
 
+-- a token that is a mark
 abbrev pub mark : ℕ → Bool → Mark → Written
 mark n g m = token n g (kinds.Mark m)
 
+-- a token that is a keyword
 abbrev pub keyword : ℕ → Bool → Keyword → Written
 keyword n g w = token n g (kinds.Keyword w)
 
+-- the kind of token that a name is, plain or between backticks
 abbrev pub name_kind : NameToken → TokenKind
 name_kind (plain x) = kinds.Name x
 name_kind (quoted x) = kinds.Quoted x
 
+-- the kind of token that a key is
 abbrev pub key_kind : Key → TokenKind
 key_kind (name_key w) = name_kind w
 key_kind (truth_key b) = kinds.Bool b
 key_kind (builtin_key b) = kinds.Builtin b
 key_kind some_key = kinds.Keyword keywords.Some
 
+-- a token that is a name
 abbrev pub name : ℕ → Bool → NameToken → Written
 name n g w = token n g (name_kind w)
 
+-- a token that is a key
 abbrev pub key : ℕ → Bool → Key → Written
 key n g k = token n g (key_kind k)
 
+-- the kind of token that the location of an import is
 abbrev pub import_type_kind : ImportType → TokenKind
 import_type_kind (path l) = kinds.Path l
 import_type_kind (url l) = kinds.Url l
@@ -71,18 +79,22 @@ abbrev pub keys_yield : ℕ → Bool → Mark → Keys → List Written
 keys_yield n g m (one_key k) = key n g k ∷ []
 keys_yield n g m (more_keys ks k) = keys_yield n g m ks ++ mark n free m ∷ key n free k ∷ []
 
+-- the tokens of a variable's index, if it has one: `@` and a number
 abbrev pub index_yield : ℕ → Option ℕ → List Written
 index_yield n None = []
 index_yield n (Some i) = mark n free At ∷ token n free (kinds.Natural i) ∷ []
 
+-- the token of a piece of text, if it is there
 abbrev pub piece_yield : ℕ → Option (List ℕ) → List Written
 piece_yield n None = []
 piece_yield n (Some p) = token n free (kinds.TextPiece p) ∷ []
 
+-- the token of an import's digest, if it has one, with white space before it
 abbrev pub digest_yield : ℕ → Option Digest → List Written
 digest_yield n None = []
 digest_yield n (Some d) = token n apart (kinds.Digest d) ∷ []
 
+-- the tokens of an import's mode, none for code
 abbrev pub mode_yield : ℕ → Mode → List Written
 mode_yield n modes.Code = []
 mode_yield n modes.Text = keyword n free keywords.As ∷ token n apart (kinds.Builtin builtins.Text) ∷ []
@@ -94,6 +106,7 @@ gap_after binary.Plus = apart
 gap_after binary.Fallback = apart
 gap_after _ = free
 
+-- the tokens of a derivation tree, and of each kind of its pieces
 abbrev mutual
   -- the tokens of a tree at which n productions `expr` stand open, it counted where it is one; `g` tells whether white
   -- space must stand before the first token

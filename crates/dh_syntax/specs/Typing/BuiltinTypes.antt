@@ -11,21 +11,27 @@ use Rattle.dh_syntax.specs.Expressions.Tree.{Leaf, Name, Term}
 abbrev type : Term
 type = builtin builtins.TypeConst
 
+-- the constant `Kind`
 abbrev kind : Term
 kind = builtin builtins.Kind
 
+-- the constant `Sort`
 abbrev sort : Term
 sort = builtin builtins.Sort
 
+-- the type `Bool`
 abbrev bool : Term
 bool = builtin builtins.Bool
 
+-- the type `Natural`
 abbrev natural : Term
 natural = builtin builtins.Natural
 
+-- the type `Integer`
 abbrev integer : Term
 integer = builtin builtins.Integer
 
+-- the type `Text`
 abbrev text : Term
 text = builtin builtins.Text
 
@@ -46,6 +52,7 @@ optional t = call builtins.Optional (t ∷ [])
 abbrev a : Term
 a = var (codes "a")
 
+-- the variable `list`
 abbrev list : Term
 list = var (codes "list")
 

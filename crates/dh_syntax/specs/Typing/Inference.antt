@@ -12,6 +12,7 @@ use Rattle.dh_syntax.specs.Normalising.Heads.{Lang, Whole, Answer, Found, Wide, 
 use Rattle.dh_syntax.specs.Normalising.Normal.{endless, HasNormalForm, plain_answer, IsDeepLicensed, IsWideLicensed}
 use Rattle.dh_syntax.specs.Typing.TypeRules.{Rule}
 
+-- the course of what the typing of an expression asks for
 pub data Inference (T : Type 0) : Type 0 where
   -- the type
   Gives : T → Inference T

@@ -29,6 +29,7 @@ type_in ((y, t) ∷ context) x (suc n) = if bytes_eq y x then type_in context x 
 abbrev pub down : Name → Term → Option Term
 down x e = if is_free x 0 e then None else Some (shift_down x 0 e)
 
+-- what typing does with the variables and binders of named expressions
 abbrev pub scopes : Scopes Var Name
 scopes = record {
   type_of = type_of;

@@ -58,5 +58,6 @@ module _ {B : Type 0} where
 abbrev pub core_scopes : Scopes Ref Name
 core_scopes = nameless_scopes (λ b. option_map to_core (type_of b)) (λ x. x)
 
+-- what typing does with nameless expressions without the names of their binders
 abbrev pub bare_scopes : Scopes Ref (Unit {0})
 bare_scopes = nameless_scopes (λ b. option_map bare (type_of b)) (λ x. tt)

@@ -8,6 +8,7 @@ use Rattle.std.specs.Prelude.{ℕ, Bool, true, false, List, [], ◌∷◌, Optio
 use Rattle.dh_syntax.specs.declared.operators.Builtin.{Builtin}
 use Rattle.dh_syntax.specs.Typing.TypeRules.{Rule}
 
+-- what a rule of typing answers on a node, or what it still needs to know
 pub data Ruling (T : Type 0) : Type 0 where
   -- the type is this one, which is in normal form: a built-in type, a universe, or a type or normal form that is known
   Takes : T → Ruling T
@@ -42,6 +43,7 @@ pub record Known (T : Type 0) : Type 0 where
   -- the universe that its type is in; none where it is in none
   pub universe : Option Builtin
 
+-- what a rule comes to once all is known: a type, or the rule that fails
 pub data Ruled (T : Type 0) : Type 0 where
   Typed : T → Ruled T
   No : Rule → Ruled T

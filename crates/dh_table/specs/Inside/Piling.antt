@@ -1,13 +1,16 @@
 -- Piles of keys.
 use Rattle.std.specs.Prelude.{◌≡◌, ◌⊎◌, ◌≤◌, ◌+◌, ℕ, suc, List, [], ◌∷◌, length, slice_index_or}
 
+-- the number at a place of a list, and zero behind its end
 abbrev pub number_at : List ℕ → ℕ → ℕ
 number_at ns n = slice_index_or ns n 0
 
+-- the number is in the list
 abbrev pub IsOn : ℕ → List ℕ → Type 0
 IsOn n [] = ⊥
 IsOn n (m ∷ ms) = (m ≡ n) ⊎ IsOn n ms
 
+-- no number is twice in the list
 abbrev pub IsOnce : List ℕ → Type 0
 IsOnce [] = Unit {0}
 IsOnce (n ∷ ns) = ¬ IsOn n ns × IsOnce ns
@@ -25,6 +28,7 @@ pub record IsPile (places tops below : List ℕ) (p : ℕ) : Type 0 where
   pub placed : (n : ℕ) → IsOn n keys → (number_at places n ≡ p) × (2 ≤ p)
   pub all : (n : ℕ) → 2 ≤ p → number_at places n ≡ p → IsOn n keys
 
+-- the keys lie on piles by their places: each pile has a top, and below each key is the next one
 pub record ArePiled (places tops below : List ℕ) : Type 0 where
   pub wide : length places + 4 ≤ length tops
   pub deep : length places ≤ length below

@@ -10,6 +10,7 @@ abbrev pub extent : Stretch → Result ℕ ℕ
 extent (UpTo text n) = Ok n
 extent (FaultAt n) = Err n
 
+-- a part of a comment of the program, as the definitions have it
 abbrev pub part_of : Part → gaps.CommentPart
 part_of parts.Opens = gaps.Opens
 part_of parts.Closes = gaps.Closes

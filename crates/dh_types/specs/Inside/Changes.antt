@@ -16,6 +16,7 @@ use Rattle.dh_types.specs.Binding.{bound_ref}
 use Rattle.dh_types.specs.Growing.{Stands}
 use Rattle.dh_types.specs.Memos.{entry}
 
+-- a code, and the parts of one, with other leaves by how many binders stand above
 abbrev mutual
   -- g tells what a leaf becomes so many binders below
   pub changed : (ℕ → Ref → Core) → ℕ → Core → Core
@@ -54,6 +55,7 @@ pub record AreChanged (cs : Codes) (change : Change) (m : Memo ℕ) : Type 0 whe
 abbrev pub Maps : (ℕ → Core) → (ℕ → Ref → Core) → Memo ℕ → Type 0
 Maps f g m = (c k d : ℕ) → entry m c k ≡ Some d → f d ≡ changed g k (f c)
 
+-- all codes that a memory has are below n
 abbrev pub AreEntriesBelow : ℕ → Memo ℕ → Type 0
 AreEntriesBelow n m = (c k d : ℕ) → entry m c k ≡ Some d → d < n
 

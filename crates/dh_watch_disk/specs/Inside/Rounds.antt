@@ -75,6 +75,7 @@ abbrev pub halt_of : DeskError → Halt
 halt_of errors.Failed = halts.Failed
 halt_of errors.Memory = halts.Memory
 
+-- texts were forgotten, or some were, up to one whose forgetting was refused
 abbrev pub AfterEdit : {A : Type 0} → State → State → Result A Halt → Type 0
 AfterEdit a b (Ok x) = Edits a b
 AfterEdit a b (Err halt) = IsRefusedEdit a b halt

@@ -5,6 +5,7 @@ use Rattle.std.specs.Prelude.{ℕ, ◌-◌, ◌==◌, Bool, not, nat_lt, if◌th
 abbrev pub lower : ℕ → ℕ → ℕ
 lower i n = if nat_lt i n then n - 1 else n
 
+-- whether a number is not this one
 abbrev pub other : ℕ → ℕ → Bool
 other i n = not (n == i)
 

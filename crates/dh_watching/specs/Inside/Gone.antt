@@ -80,10 +80,12 @@ pub record HasStopped (a b : State) (orders : List Order) (w : Output) : Type 0 
   pub goes : Goes a b before told status refused
   pub stops : Stops w told
 
+-- orders were gone through with this ending: all of them, or up to a refused change, or to a failed write
 abbrev pub IsGoneTo : State → State → List Order → Output → Status → Option Halt → Type 0
 IsGoneTo a b orders w s None = HasGone a b orders w s
 IsGoneTo a b orders w s (Some (halts.Refused e)) = HasHalted a b orders w s e
 IsGoneTo a b orders w s (Some halts.Cut) = HasStopped a b orders w
 
+-- orders were gone through as far as this result tells
 abbrev pub IsGone : State → State → List Order → Output → Gone → Type 0
 IsGone a b orders w g = IsGoneTo a b orders w g.status g.halt

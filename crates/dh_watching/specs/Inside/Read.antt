@@ -34,6 +34,7 @@ IsEndedBy t None err s = Gains err [] × (s ≡ t)
 IsEndedBy t (Some halts.Cut) err s = Tries err (line write_line) × (s ≡ status.Write)
 IsEndedBy t (Some (halts.Refused e)) err s = EndsWith (refusal_text (refusal_of_desk e)) (refusal_status (refusal_of_desk e)) err s
 
+-- a run whose orders came to this result ends with this error output and status
 abbrev pub IsEnded : Gone → Output → Status → Type 0
 IsEnded g err s = IsEndedBy g.status g.halt err s
 

@@ -3,6 +3,7 @@ use Rattle.std.specs.Prelude.{Bool, true, false, ◌||◌}
 use Rattle.dh_syntax.specs.Expressions.Tree.{Row, Leaf, Node, end, kid, Name}
 use Rattle.dh_syntax.specs.Names.Nameless.{Ref, Bound, Free, Core}
 
+-- whether a nameless expression, or a row of such expressions, has a variable that no binder in it binds
 abbrev mutual
   pub has_free : Core → Bool
   has_free (Leaf (Bound i)) = false

@@ -19,21 +19,27 @@ use Rattle.dh_syntax.specs.declared.lists.Many.TheView.{view, invariant}
 use Rattle.dh_syntax.specs.contracts.lists.Many as C
 use Rattle.dh_syntax.specs.contracts.lists.Many.TheInside as I
 
+-- a list of what another former holds
 abbrev pub the_former : Former {0} → Former {0}
 the_former g = list g
 
+-- the list of a former that has a weight has one too
 abbrev pub the_weighed : {g : Former {0}} → Weighed g → Weighed (the_former g)
 the_weighed w = w_list w
 
+-- the list without elements
 pub the_empty : List ⊥
 the_empty = []
 
+-- the elements that a list holds, which is the list itself
 abbrev pub the_items : (X : Type 0) → List X → List X
 the_items X d = d
 
+-- what a list holds, listed, is its elements
 pub the_items_listed : (X : Type 0) (d : List X) → listed _ (children (the_former this) X d) ≡ the_items X d
 the_items_listed X d = list-listed X d
 
+-- the one field of the type: a vector in the global allocator
 abbrev fields : Former {0}
 fields = via (vec.the_former this Global) Inside (λ X a. a.items) (λ X v. record { items = v }) (λ X a. refl) (λ X v. refl)
 
