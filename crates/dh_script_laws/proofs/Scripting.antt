@@ -18,7 +18,7 @@ all : {now : Now} {asked : List Loc} {exact : Bool} {orders : List Order} {out :
 all ends e n = watched.ends
 all (sets t) e n = watched.sets (all t e n)
 all (drops t) e n = watched.drops (all t e n)
-all (asks {now = now} {asked = asked} {new = new} {l = l} {line = line} {s = s} {n = n} x f g t) e r =
+all (asks {now = now} {asked = asked} {new = new} {l = l} {line = line} {s = s} {n = n} x few f g t) e r =
     watched.asks (subst (λ m. IsAsked now asked l line s m new) (sym (g e)) x) (all t e r)
 all (refuses f g t) e n = cons_nil n
 

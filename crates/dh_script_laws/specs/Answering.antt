@@ -10,6 +10,7 @@ use Rattle.dh_watch_laws.specs.Contents.{Now, IsOver}
 use Rattle.dh_watch_laws.specs.Kept.{Kept, known}
 use Rattle.dh_watch_laws.specs.Overflowing.{Overflows}
 use Rattle.dh_watch_laws.specs.Running.{Runs, stage_at}
+use Rattle.dh_watch_laws.specs.VisitCounts.{AreFew}
 use Rattle.dh_script_laws.specs.Asks.{root_of, root_key, RootLine, IsAsked}
 
 -- why an ask is refused: a device failed, it visits too many keys, or memory is wanting
@@ -31,12 +32,13 @@ pub data Answers (now : Now) (old : Kept) (l : Loc) : Kept → List ℕ → Stat
 abbrev pub AreAmong : List Loc → List Loc → Type 0
 AreAmong xs ys = (x : Loc) → IsAmong x xs → IsAmong x ys
 
--- An ask in one script over the contents, after these locations were asked there: it has this line, and there at least so many locations
--- are fetched; exactly so many, if these are all whose texts were kept.
+-- An ask in one script over the contents, after these locations were asked there: it has this line, and visits no more keys than are
+-- allowed; and there at least so many locations are fetched; exactly so many, if these are all whose texts were kept.
 pub record IsAnsweredAs (now : Now) (before after asked : List Loc) (l : Loc) (line : List ℕ) (s : Status) (n : ℕ) : Type 0 where
   pub most : ℕ
   pub new : List Loc
   pub is_asked : IsAsked now asked l line s most new
+  pub few : AreFew is_asked.recorded is_asked.units (root_key l)
   pub fewer : n ≤ most
   pub kept : AreAmong (new ++ asked) after
   pub exact : AreAmong before asked → (n ≡ most) × AreAmong after (new ++ asked)

@@ -12,6 +12,7 @@ use Rattle.dh_watch_laws.specs.Contents.{Now, dropped, set}
 use Rattle.dh_watch_laws.specs.Editing.{edited}
 use Rattle.dh_watch_laws.specs.Overflowing.{Overflows}
 use Rattle.dh_watch_laws.specs.ScriptLines.{Order, Set, Drop, Ask, IsScript}
+use Rattle.dh_watch_laws.specs.VisitCounts.{AreFew}
 use Rattle.dh_script_laws.specs.Answering.{Refusal, Failed, TooMany, Memory}
 use Rattle.dh_script_laws.specs.Asks.{root_key, IsAsked}
 
@@ -40,11 +41,13 @@ pub data ScriptWrites (bytes : List ℕ) (out : List ℕ) (st : Status) : Type 0
 
 -- ---- where asks are refused
 
+-- the text that tells why an ask is refused
 abbrev pub refusal_text : Refusal → List ℕ
 refusal_text Failed = why_line why.Failed
 refusal_text TooMany = why_line why.TooMany
 refusal_text Memory = memory_line
 
+-- the status of an ask that is refused
 abbrev pub refusal_status : Refusal → Status
 refusal_status Failed = status.Desk
 refusal_status TooMany = status.Limit
@@ -61,7 +64,7 @@ IsGrounded now l Failed = Unit {0}
 IsGrounded now l Memory = Unit {0}
 
 -- What these orders write where asks may be refused, in this order: each other line is as without them, but for the count, which is at
--- most that; it is exact as long as none was refused.
+-- most that; it is exact as long as none was refused. No ask that has a line visits more keys than are allowed.
 pub data Tried : Now → List Loc → Bool → List Order → List ℕ → Status → List Refusal → Type 0 where
   ends : {now : Now} {asked : List Loc} {exact : Bool} → Tried now asked exact [] [] status.Ok []
   sets : {now : Now} {asked : List Loc} {exact : Bool} {l : Loc} {bytes out : List ℕ} {rest : List Order} {s : Status} {refused : List Refusal}
@@ -69,7 +72,7 @@ pub data Tried : Now → List Loc → Bool → List Order → List ℕ → Statu
   drops : {now : Now} {asked : List Loc} {exact : Bool} {l : Loc} {out : List ℕ} {rest : List Order} {s : Status} {refused : List Refusal}
       → Tried (dropped l now) (edited l asked) exact rest out s refused → Tried now asked exact (Drop l ∷ rest) out s refused
   asks : {now : Now} {asked new : List Loc} {exact : Bool} {l : Loc} {line out : List ℕ} {rest : List Order} {s s' : Status} {n most : ℕ} {refused : List Refusal}
-      → IsAsked now asked l line s most new → n ≤ most → (exact ≡ true → n ≡ most) → Tried now (new ++ asked) exact rest out s' refused
+      → (a : IsAsked now asked l line s most new) → AreFew a.recorded a.units (root_key l) → n ≤ most → (exact ≡ true → n ≡ most) → Tried now (new ++ asked) exact rest out s' refused
       → Tried now asked exact (Ask l ∷ rest) (ask_line l line n ++ out) (first_fault s s') refused
   refuses : {now : Now} {asked : List Loc} {exact : Bool} {l : Loc} {out : List ℕ} {rest : List Order} {s : Status} {refused : List Refusal} (f : Refusal)
       → IsGrounded now l f → Tried now asked false rest out s refused

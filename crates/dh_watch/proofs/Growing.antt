@@ -70,6 +70,12 @@ grown-run old root h (finishes run None o d) =
 grown-run old root h (finishes run (Some w) o d) =
     let g = grown-run old root h run in record { locs = g.locs; once = g.once; fresh = g.fresh; recorded = g.recorded; count = g.count }
 
+-- an ask that is not refused
+pub grown-asked : (old : Kept) (root : Key) (s : Kept) (n : ℕ) → IsSound old → Asked old root s n → HasGrown old s
+grown-asked old root s n h (decided run c) = grown-run old root h run
+grown-asked old root s n h (loops x y xs run w i c) = grown-run old root h run
+grown-asked old root s n h (kept o e) = grown-none old old refl
+
 -- ---- what is asked for
 
 -- an ask that is not refused asked for no more texts than it fetched

@@ -1,5 +1,5 @@
 -- What is always true of what is kept between two asks, and what an ask leaves.
-use Rattle.std.specs.Prelude.{◌≡◌, ◌<◌, ◌+◌, ℕ, Bool, false, List, length, Option, Some, None}
+use Rattle.std.specs.Prelude.{◌≡◌, ◌<◌, ◌≤◌, ◌+◌, ℕ, Bool, false, List, length, Option, Some, None}
 use Rattle.dh_syntax.specs.declared.locations.Key.{Key}
 use Rattle.dh_syntax.specs.declared.locations.Loc.{Loc}
 use Rattle.dh_syntax.specs.Limits.{most_keys}
@@ -11,6 +11,7 @@ use Rattle.dh_watch_laws.specs.Contents.{Now, IsOver}
 use Rattle.dh_watch_laws.specs.Counting.{AreOnce}
 use Rattle.dh_watch_laws.specs.Kept.{Kept, IsSound}
 use Rattle.dh_watch_laws.specs.Sweeping.{AreOf}
+use Rattle.dh_watch_laws.specs.VisitCounts.{Counts}
 use Rattle.dh_watch_rows.specs.declared.rows.Rows.{Rows}
 use Rattle.dh_watch_rows.specs.KeptRows.{IsGood, kept_of}
 use Rattle.dh_watch_rows.specs.Leaving.{IsLeft}
@@ -39,9 +40,17 @@ pub record HasGrown (old s : Kept) : Type 0 where
   pub recorded : (l : Loc) → IsAmong l locs → (t : Noted) × (text_at s.recorded l ≡ Some t)
   pub count : length s.recorded.texts ≡ length locs + length old.recorded.texts
 
--- an ask of this root was refused: no text is lost, those that are new are known, and where it met too many keys it has found and waits
--- for so many
+-- too many keys are visited from this root: so many has a run found that waits for them, or so many are visited by what it then keeps
+pub data MeetsMany (old : Kept) (root : Key) (s : Kept) : Type 0 where
+  in_run : HasMany most_keys old root s → MeetsMany old root s
+  counted : (n : ℕ) → Counts s root n → most_keys < n → MeetsMany old root s
+
+-- no more are visited than are allowed
+abbrev pub MeetsFew : Kept → Key → Type 0
+MeetsFew s root = (n : ℕ) → Counts s root n → n ≤ most_keys
+
+-- an ask of this root was refused: no text is lost, those that are new are known, and where that is why, too many keys are visited
 pub record IsStopped (old : Kept) (root : Key) (s : Kept) (stop : Stop) : Type 0 where
   pub texts : AreOf old.recorded.texts s.recorded.texts
   pub grown : HasGrown old s
-  pub many : stop ≡ stops.TooMany → HasMany most_keys old root s
+  pub many : stop ≡ stops.TooMany → MeetsMany old root s

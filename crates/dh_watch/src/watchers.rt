@@ -1,18 +1,22 @@
 //! What is kept of files from one ask to the next.
 
-ghost use Rattle.std.specs.Prelude.{◌≡◌, ◌≤◌, ◌+◌, false, IfErr, IfOk, OnErr, OnOk};
+ghost use Rattle.std.specs.Prelude.{◌≡◌, ◌<◌, ◌≤◌, ◌+◌, ℕ, false, length, IfErr, IfOk, OnErr, OnOk};
 ghost use Rattle.dh_ports.specs.Counts.{Rose};
 ghost use Rattle.dh_ports.specs.declared.desks.DeskError.TheVariants as errors;
 ghost use Rattle.dh_record.specs.Entering.{keys_in};
+ghost use Rattle.dh_record.specs.Rows.{key_named};
+ghost use Rattle.dh_syntax.specs.Limits.{most_keys};
 ghost use Rattle.dh_watch_files.specs.Contents.{IsPut};
 ghost use Rattle.dh_watch_laws.specs.Asking.{Asked};
 ghost use Rattle.dh_watch_laws.specs.Kept.{IsSound, nothing_kept};
-ghost use Rattle.dh_watch_rows.specs.KeptRows.{kept_of};
+ghost use Rattle.dh_watch_laws.specs.VisitCounts.{Counts};
+ghost use Rattle.dh_watch_rows.specs.KeptRows.{IsGood, kept_of};
 ghost use Rattle.dh_watch_rows.specs.Removing.{Forgets};
 ghost use Rattle.dh_watch_runs.specs.declared.deciding.Stop.TheVariants as stops;
 ghost use Rattle.dh_watch_runs.specs.Asks.{ComesTo};
+ghost use Rattle.dh_watch_runs.specs.Endings.{LeavesChain};
 ghost use Rattle.dh_watch_runs.specs.Resolving.{AsksFor};
-ghost use Rattle.dh_watch.specs.Watchers.{IsNumber, IsStopped, IsWatched};
+ghost use Rattle.dh_watch.specs.Watchers.{IsNumber, IsStopped, IsWatched, MeetsFew};
 
 use crate::sources::Source;
 use crate::workers::Worker;
@@ -20,7 +24,7 @@ use dh_ports::DeskError;
 use dh_syntax::{Bytes, Key, Loc};
 use dh_watch_files::Files;
 use dh_watch_rows::Rows;
-use dh_watch_runs::{End, Resolution, Stop, Trail, ask};
+use dh_watch_runs::{End, MOST_KEYS, Resolution, Stop, Trail, ask};
 use std::alloc::{AllocError, Global};
 
 /// To what an ask came.
@@ -120,6 +124,7 @@ impl<F: Files, W: Worker> Watcher<F, W> {
         ensures asked { IfOk result (λ r. Asked (kept_of self.old.source.rows) key (kept_of self.new.source.rows) r.fetched) }
         ensures ended { IfOk result (λ r. ComesTo key (keys_in self.new.source.rows.keys) (kept_of self.new.source.rows) r.end) }
         ensures number { IfOk result (λ r. IsNumber self.new.source.rows.keys key r.root) }
+        ensures few { OnOk result (MeetsFew (kept_of self.new.source.rows) key) }
         ensures stopped { IfErr result (IsStopped (kept_of self.old.source.rows) key (kept_of self.new.source.rows)) }
         ensures asks { IfOk result (λ r. F.asked self.new.source.files ≤ F.asked self.old.source.files + r.fetched) }
         ensures asks_one { OnErr result (AsksFor 1 (F.asked self.old.source.files) (kept_of self.old.source.rows) (F.asked self.new.source.files) (kept_of self.new.source.rows)) }
@@ -135,8 +140,58 @@ impl<F: Files, W: Worker> Watcher<F, W> {
         };
         self.source.ways.clear();
         match ask(alloc, &mut self.source, &mut self.trail, root) {
-            Ok(Resolution { end, fetched }) => Ok(Resolved { root, end, fetched }),
+            Ok(Resolution { end, fetched }) => {
+                self.allow(alloc, root, end)?;
+                Ok(Resolved { root, end, fetched })
+            }
             Err(stop) => Err(stop),
+        }
+    }
+
+    // Allows an ask that came to this end where it visits no more keys than are allowed, those that earlier asks decided among them.
+    fn allow(&self, alloc: Global, root: u32, end: End) -> Result<(), Stop>
+        requires good { IsGood self.now.source.rows }
+        requires sound { IsSound (kept_of self.now.source.rows) }
+        requires inside { root < length self.now.source.rows.keys }
+        requires ended { ComesTo (key_named self.now.source.rows.keys root) (keys_in self.now.source.rows.keys) (kept_of self.now.source.rows) end }
+        requires chain { LeavesChain (key_named self.now.source.rows.keys root) (keys_in self.now.source.rows.keys) (kept_of self.now.source.rows) self.now.trail end }
+        ensures few { OnOk result (MeetsFew (kept_of self.now.source.rows) (key_named self.now.source.rows.keys root)) }
+        ensures many { IfErr result (λ e. e ≡ stops.TooMany → (n : ℕ) × Counts (kept_of self.now.source.rows) (key_named self.now.source.rows.keys root) n × most_keys < n) }
+        ensures quiet { IfErr result (λ e. ¬ (e ≡ stops.Failed)) }
+    {
+        if self.visited(alloc, root, end)? > MOST_KEYS {
+            return Err(Stop::TooMany);
+        }
+        Ok(())
+    }
+
+    // How many keys are visited from a root that came to this end. Where those are few that have outcomes or are on the trail, it is how
+    // many these are, and nothing is counted.
+    fn visited(&self, alloc: Global, root: u32, end: End) -> Result<usize, AllocError>
+        requires good { IsGood self.now.source.rows }
+        requires sound { IsSound (kept_of self.now.source.rows) }
+        requires inside { root < length self.now.source.rows.keys }
+        requires ended { ComesTo (key_named self.now.source.rows.keys root) (keys_in self.now.source.rows.keys) (kept_of self.now.source.rows) end }
+        requires chain { LeavesChain (key_named self.now.source.rows.keys root) (keys_in self.now.source.rows.keys) (kept_of self.now.source.rows) self.now.trail end }
+        ensures few { IfOk result (λ n. n ≤ most_keys → MeetsFew (kept_of self.now.source.rows) (key_named self.now.source.rows.keys root)) }
+        ensures many { IfOk result (λ n. most_keys < n → Counts (kept_of self.now.source.rows) (key_named self.now.source.rows.keys root) n) }
+    {
+        let rows = &self.source.rows;
+        let known = rows.outcome_count();
+        match end {
+            End::Decided => {
+                if known <= MOST_KEYS {
+                    return Ok(known);
+                }
+                rows.count_visited(alloc, root)
+            }
+            End::Loop(least) => {
+                let chain = self.trail.len();
+                if known <= MOST_KEYS && chain <= MOST_KEYS - known {
+                    return Ok(known + chain);
+                }
+                rows.count_on_loop(alloc, self.trail.numbers(), least)
+            }
         }
     }
 }

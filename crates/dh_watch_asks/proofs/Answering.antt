@@ -19,7 +19,7 @@ use Rattle.dh_import_laws.proofs.Walks.{Knows}
 use Rattle.dh_import_laws.proofs.Wants.{among_left, among_right, among-split}
 use Rattle.dh_script_laws.specs.Answering.{AreAmong, IsAnswered, IsAnsweredAs, IsRefused, TooMany, Memory}
 use Rattle.dh_script_laws.specs.Asks.{AreLicensed, IsAsked, RootLine, root_key, root_of}
-use Rattle.dh_watch.specs.Watchers.{IsStopped}
+use Rattle.dh_watch.specs.Watchers.{IsStopped, MeetsFew, MeetsMany, in_run, counted}
 use Rattle.dh_watch_laws.specs.Asking.{Asked, Decides}
 use Rattle.dh_watch_laws.specs.Contents.{Now, IsOver}
 use Rattle.dh_watch_laws.specs.Counting.{AreOnce, IsAskedText}
@@ -27,12 +27,14 @@ use Rattle.dh_watch_laws.specs.Editing.{locs_of}
 use Rattle.dh_watch_laws.specs.Kept.{IsSound, Kept, known}
 use Rattle.dh_watch_laws.specs.Overflowing.{Overflows}
 use Rattle.dh_watch_laws.specs.Sweeping.{AreOf}
+use Rattle.dh_watch_laws.specs.VisitCounts.{AreFew}
 use Rattle.dh_watch_laws.specs.Visiting.{IsClosed}
 use Rattle.dh_watch_laws.proofs.Asking.{asks_decide}
 use Rattle.dh_watch_laws.proofs.Counting.{due-has, found-in, in-found, no-longer}
 use Rattle.dh_watch_laws.proofs.Holding.{has-grown}
 use Rattle.dh_watch_laws.proofs.Many.{many_are_visited}
 use Rattle.dh_watch_laws.proofs.Overflowing.{many_overflow}
+use Rattle.dh_watch_laws.proofs.VisitCounts.{counts_are_asked, counts_overflow}
 use Rattle.dh_watch_laws.proofs.Visiting.{from-settled}
 use Rattle.dh_watch_runs.specs.declared.deciding.Stop.{Stop}
 use Rattle.dh_watch_runs.specs.declared.deciding.Stop.TheVariants as stops
@@ -98,7 +100,7 @@ licensed s h n more k w e =
     (i.code, i.allow, has-grown s.recorded s.recorded (longer-itself s.recorded) (known s.outcomes) (resolve s.recorded n []) more k _ i.due, i.licensed)
 
 module _ (now : Now) (old s : Kept) (l : Loc) (line : List ℕ) (st : Status) (n : ℕ) (d : Decides old s (root_key l) n) (over : IsOver now s.recorded)
-    (r : RootLine s.recorded (root_of l) line st) (asked : List Loc) (least : AreAmong asked (locs_of old.recorded.texts)) where
+    (r : RootLine s.recorded (root_of l) line st) (few : AreFew s.recorded d.visits.units (root_key l)) (asked : List Loc) (least : AreAmong asked (locs_of old.recorded.texts)) where
   new : Beside asked d.texts
   new = beside asked d.texts d.once
 
@@ -175,18 +177,21 @@ module _ (now : Now) (old s : Kept) (l : Loc) (line : List ℕ) (st : Status) (n
             go None q (inr f) = among_left x new.locs asked ((new.members x).1 (f, (d.members x).1 (d.only x t e q)))
 
   is-answered-as : IsAnsweredAs now (locs_of old.recorded.texts) (locs_of s.recorded.texts) asked l line st n
+  unfolding is-asked
   is-answered-as = record {
     most = length new.locs;
     new = new.locs;
     is_asked = is-asked;
+    few = few;
     fewer = let up = no-longer d.count.locs new.locs d.count.once new.once fetched-new in omega (arith, up, d.count.count);
     kept = all-kept;
     exact = λ most. (count-is most, all-asked most);
   }
 
 is-answered : (now : Now) (old s : Kept) (l : Loc) (line : List ℕ) (st : Status) (n : ℕ) → IsSound old → Asked old (root_key l) s n → IsOver now s.recorded
-    → RootLine s.recorded (root_of l) line st → IsAnswered now (locs_of old.recorded.texts) (locs_of s.recorded.texts) l line st n
-is-answered now old s l line st n h a over r asked least = is-answered-as now old s l line st n (asks_decide old s (root_key l) n h a) over r asked least
+    → RootLine s.recorded (root_of l) line st → MeetsFew s (root_key l) → IsAnswered now (locs_of old.recorded.texts) (locs_of s.recorded.texts) l line st n
+is-answered now old s l line st n h a over r few asked least =
+    let d = asks_decide old s (root_key l) n h a in is-answered-as now old s l line st n d over r (counts_are_asked old s (root_key l) n h a few d) asked least
 
 -- ---- an ask that is refused
 
@@ -194,11 +199,15 @@ still-kept : (old s : Kept) → AreOf old.recorded.texts s.recorded.texts → Ar
 still-kept old s h x m = let t = found-in old.recorded.texts x m in in-found s.recorded.texts x t.0 (h x t.0 t.1)
 
 -- it met so many keys
-overflows : (now : Now) (old s : Kept) (root : Key) → IsSound old → IsSound s → IsOver now s.recorded → HasMany most_keys old root s → Overflows now root
-overflows now old s root h g over m =
+run-overflows : (now : Now) (old s : Kept) (root : Key) → IsSound old → IsSound s → IsOver now s.recorded → HasMany most_keys old root s → Overflows now root
+run-overflows now old s root h g over m =
     let n = (length m.trail + length s.outcomes) - length old.outcomes in
     let e : n + length old.outcomes ≡ length m.trail + length s.outcomes = omega (arith, m.many) in
     many_overflow now s root n g over (many_are_visited old s root m.trail n h m.run e) (omega (arith, m.many, e))
+
+overflows : (now : Now) (old s : Kept) (root : Key) → IsSound old → IsSound s → IsOver now s.recorded → MeetsMany old root s → Overflows now root
+overflows now old s root h g over (in_run m) = run-overflows now old s root h g over m
+overflows now old s root h g over (counted n c m) = counts_overflow now s root n g over c m
 
 too-many : (stop : Stop) → refusal_of (fault_of stop) ≡ TooMany → stop ≡ stops.TooMany
 too-many stops.Failed e = cc
@@ -273,10 +282,10 @@ IsOverTold told s = (now : Now) → told ≡ Some now → IsOver now s.recorded
 
 -- the line of an ask, where the first texts are those that were kept
 pub answered : (told : Option Now) (texts : List (Loc × Noted)) (old s : Kept) (l : Loc) (line : Line) (n : ℕ) → old.recorded.texts ≡ texts → IsSound old → Asked old (root_key l) s n
-    → IsOverTold told s → RootLine s.recorded (root_of l) line.text line.status → line.asked ≡ n → IsAnswer told (locs_of texts) l (locs_of s.recorded.texts) line
-answered told texts old s l line n same h a over r count now t =
+    → IsOverTold told s → RootLine s.recorded (root_of l) line.text line.status → MeetsFew s (root_key l) → line.asked ≡ n → IsAnswer told (locs_of texts) l (locs_of s.recorded.texts) line
+answered told texts old s l line n same h a over r few count now t =
     subst (λ m. IsAnswered now (locs_of texts) (locs_of s.recorded.texts) l line.text line.status m) (sym count)
-    (subst (λ z. IsAnswered now (locs_of z) (locs_of s.recorded.texts) l line.text line.status n) same (is-answered now old s l line.text line.status n h a (over now t) r))
+    (subst (λ z. IsAnswered now (locs_of z) (locs_of s.recorded.texts) l line.text line.status n) same (is-answered now old s l line.text line.status n h a (over now t) r few))
 
 -- its resolution has no end
 pub refused : (told : Option Now) (old s : Kept) (l : Loc) (stop : Stop) → IsSound old → IsSound s → IsOverTold told s → IsStopped old (root_key l) s stop

@@ -1,13 +1,13 @@
 //! Edits and asks of files that are watched.
 
-ghost use Rattle.std.specs.Prelude.{◌≡◌, ◌≤◌, ◌+◌, false, IfErr, IfOk, OnErr};
+ghost use Rattle.std.specs.Prelude.{◌≡◌, ◌≤◌, ◌+◌, false, IfErr, IfOk, OnErr, OnOk};
 ghost use Rattle.dh_ports.specs.Counts.{Rose};
 ghost use Rattle.dh_record.specs.Entering.{keys_in};
 ghost use Rattle.dh_record.specs.Rows.{key_named};
 ghost use Rattle.dh_script.specs.Locations.{IsPlace};
 ghost use Rattle.dh_script_laws.specs.Asks.{RootLine, root_key as root_key_of, root_of};
 ghost use Rattle.dh_syntax.specs.declared.locations.Loc.{Loc as Location};
-ghost use Rattle.dh_watch.specs.Watchers.{IsNumber, IsWatched};
+ghost use Rattle.dh_watch.specs.Watchers.{IsNumber, IsWatched, MeetsFew};
 ghost use Rattle.dh_watch_asks.specs.Stops.{fault_of};
 ghost use Rattle.dh_watch_laws.specs.Asking.{Asked};
 ghost use Rattle.dh_watch_laws.specs.Editing.{locs_of};
@@ -62,6 +62,7 @@ impl<F: Files, W: Worker> Watch<F, W> {
         ensures asked { IfOk result (λ r. Asked (kept_of self.old.watcher.source.rows) (root_key_of loc.now) (kept_of self.new.watcher.source.rows) r.fetched) }
         ensures ended { IfOk result (λ r. ComesTo (root_key_of loc.now) (keys_in self.new.watcher.source.rows.keys) (kept_of self.new.watcher.source.rows) r.end) }
         ensures number { IfOk result (λ r. IsNumber self.new.watcher.source.rows.keys (root_key_of loc.now) r.root) }
+        ensures few { OnOk result (MeetsFew (kept_of self.new.watcher.source.rows) (root_key_of loc.now)) }
         ensures refused { IfErr result (IsRefusal (F.now self.old.watcher.source.files) (locs_of (kept_of self.old.watcher.source.rows).recorded.texts) loc.now (locs_of (kept_of self.new.watcher.source.rows).recorded.texts)) }
         ensures asks { IfOk result (λ r. F.asked self.new.watcher.source.files ≤ F.asked self.old.watcher.source.files + r.fetched) }
         ensures asks_one { OnErr result (AsksOneMore (locs_of (kept_of self.old.watcher.source.rows).recorded.texts) (locs_of (kept_of self.new.watcher.source.rows).recorded.texts)

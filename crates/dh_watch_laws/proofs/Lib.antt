@@ -15,4 +15,6 @@ pub mod Running
 pub mod Settling
 pub mod Standing
 pub mod Sweeping
+pub mod VisitCounts
+pub mod VisitPasses
 pub mod Visiting

@@ -147,7 +147,7 @@ module _ (r : Record) (l : Outcomes) (k : Key) (xs : List Key) (f : Found r l) (
   off-loop x t = ap (λ b. if b then Some (Loop (least_back_to k xs)) else known l x) t
 
   -- what is known is of no key of the chain
-  off : (x : Key) (o : Outcome) → known l x ≡ Some o → is_in x xs ≡ false
+  pub off : (x : Key) (o : Outcome) → known l x ≡ Some o → is_in x xs ≡ false
   off x o h = go (bool-case (is_in x xs))
     where
       go : (is_in x xs ≡ true) ⊎ (is_in x xs ≡ false) → is_in x xs ≡ false

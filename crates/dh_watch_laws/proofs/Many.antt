@@ -12,7 +12,7 @@ use Rattle.dh_watch_laws.specs.Running.{keys_of_outcomes, AreApart}
 use Rattle.dh_watch_laws.proofs.Needing.{in-of}
 use Rattle.dh_watch_laws.proofs.Running.{runs_add}
 
-keys-length : (l : Outcomes) → length (keys_of_outcomes l) ≡ length l
+pub keys-length : (l : Outcomes) → length (keys_of_outcomes l) ≡ length l
 keys-length [] = refl
 keys-length (p ∷ l) = ap suc (keys-length l)
 

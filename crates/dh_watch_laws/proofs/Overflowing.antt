@@ -16,7 +16,7 @@ use Rattle.dh_watch_laws.proofs.Many.{keys-no-longer}
 use Rattle.dh_watch_laws.proofs.Running.{from-longer}
 
 -- what is known with so much to spend is known with more
-knows-more : (r : Record) (ask : Ask) (extra n : ℕ) → Knows ask (resolve r n []) → Knows ask (resolve r (extra + n) [])
+pub knows-more : (r : Record) (ask : Ask) (extra n : ℕ) → Knows ask (resolve r n []) → Knows ask (resolve r (extra + n) [])
 knows-more r ask zero n h = subst (λ m. Knows ask (resolve r m [])) (sym (zero-add n)) h
 knows-more r ask (suc extra) n h =
     let e : suc (extra + n) ≡ suc extra + n = omega arith in

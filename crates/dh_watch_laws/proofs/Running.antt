@@ -24,6 +24,7 @@ use Rattle.dh_watch_laws.specs.Depending.{part_of, From, here, there}
 use Rattle.dh_watch_laws.specs.Kept.{Outcomes, known, Kept, IsSound, keep_text, keep_look, keep_outcome, IsLast}
 use Rattle.dh_watch_laws.specs.Sweeping.{AreOf}
 use Rattle.dh_watch_laws.specs.Visiting.{Chain, ends, waits}
+use Rattle.dh_watch_laws.specs.VisitCounts.{RunsClose}
 use Rattle.dh_watch_laws.specs.Running.{stage_at, Runs, begins, fetches, looks, enters, finishes, IsVisited, keys_of_outcomes, AreApart, RunsAdd, RunsDecide, RunsLoop, LoopsClose}
 use Rattle.dh_watch_laws.proofs.Forgetting.{plan-unknown}
 use Rattle.dh_watch_laws.proofs.Holding.{text_kept, look_kept, outcome_kept, kept_are_resolved}
@@ -43,13 +44,13 @@ pub from-longer : (r r' : Record) → Longer r r' → (more : Ask) {k j : Key} �
 from-longer r r' g more here = here
 from-longer r r' g more (there {k = k} {y = y} m f) = there (asked-grown more k y (plan r k) (plan r' k) (plan-grown r r' g k) m) (from-longer r r' g more f)
 
-from-joined : (r : Record) (more : Ask) {k j i : Key} → From r more k j → From r more j i → From r more k i
+pub from-joined : (r : Record) (more : Ask) {k j i : Key} → From r more k j → From r more j i → From r more k i
 from-joined r more here f = f
 from-joined r more (there m g) f = there m (from-joined r more g f)
 
 -- ---- trails
 
-abbrev last_of : Key → List Key → Key
+abbrev pub last_of : Key → List Key → Key
 last_of k [] = k
 last_of k (x ∷ xs) = last_of x xs
 
@@ -60,7 +61,7 @@ chain-from r ask more h k (x ∷ xs) (waits b c) =
     from-joined r more (chain-from r ask more h x xs c) (there (asked-needed ask more h x (plan r x) k b.1) here)
 
 -- so is each key of it
-chain-among : (r : Record) (ask more : Ask) → Knows ask more → (k : Key) (xs : List Key) → Chain r ask k xs → (j : Key) → IsAmong j (k ∷ xs) → From r more (last_of k xs) j
+pub chain-among : (r : Record) (ask more : Ask) → Knows ask more → (k : Key) (xs : List Key) → Chain r ask k xs → (j : Key) → IsAmong j (k ∷ xs) → From r more (last_of k xs) j
 chain-among r ask more h k xs c j (inl p) = subst (λ z. From r more (last_of k xs) z) p (chain-from r ask more h k xs c)
 chain-among r ask more h k [] c j (inr m) = absurd m
 chain-among r ask more h k (x ∷ xs) (waits b c) j (inr m) = chain-among r ask more h x xs c j m
@@ -71,7 +72,7 @@ waits-longer r r' g ask x y b =
     let h : StageGrown ask (Waits y) (stage r' ask x) = subst (λ s. StageGrown ask s (stage r' ask x)) b.1 (stage-grown r r' g ask ask (λ k o q. q) x) in
     (b.0, subst (λ a. OnWait y (stage r' ask x) a) n h)
 
-chain-longer : (r r' : Record) → Longer r r' → (ask : Ask) (k : Key) (xs : List Key) → Chain r ask k xs → Chain r' ask k xs
+pub chain-longer : (r r' : Record) → Longer r r' → (ask : Ask) (k : Key) (xs : List Key) → Chain r ask k xs → Chain r' ask k xs
 chain-longer r r' g ask k [] c = ends
 chain-longer r r' g ask k (x ∷ xs) (waits b c) = waits (waits-longer r r' g ask x k b) (chain-longer r r' g ask x xs c)
 
@@ -293,7 +294,7 @@ chain-unknown r ask k xs c e j (inl p) = subst (λ z. ask z ≡ None) p e
 chain-unknown r ask k [] c e j (inr m) = absurd m
 chain-unknown r ask k (x ∷ xs) (waits b c) e j (inr m) = chain-unknown r ask x xs c b.0 j m
 
-both-apart : (ks js : List Key) → AreApart ks → AreApart js → ((j : Key) → IsAmong j ks → is_in j js ≡ false) → AreApart (ks ++ js)
+pub both-apart : (ks js : List Key) → AreApart ks → AreApart js → ((j : Key) → IsAmong j ks → is_in j js ≡ false) → AreApart (ks ++ js)
 both-apart [] js a b f = b
 both-apart (k ∷ ks) js a b f = (go (bool-case (is_in k (ks ++ js))), both-apart ks js a.1 b (λ j m. f j (inr m)))
   where
@@ -357,6 +358,26 @@ pub root-on-trail : (old s : Kept) (root k : Key) (xs : List Key) → IsSound ol
 root-on-trail old s root k xs h run =
     let st : Stands s root (k ∷ xs) = (runs old root h run).stands in
     subst (λ z. is_in z (k ∷ xs) ≡ true) st.3 (last-in k xs)
+
+-- the last key of a list ends it
+last-ends : (k : Key) (xs : List Key) → (later : List Key) × (k ∷ xs ≡ later ++ last_of k xs ∷ [])
+last-ends k [] = ([], refl)
+last-ends k (x ∷ xs) = let e = last-ends x xs in (k ∷ e.0, ap (λ z. k ∷ z) e.1)
+
+-- the keys of a run wait for each other, and the latest for one of them
+pub runs_close : RunsClose
+runs_close old s root k y xs h run e i =
+    let st : Stands s root (k ∷ xs) = (runs old root h run).stands in
+    let l = last-ends k xs in
+    record {
+      next = y;
+      chain = waits (st.1, e) st.0;
+      closes = i;
+      apart = st.2;
+      later = l.0;
+      root_is = l.1 ∙ ap (λ z. l.0 ++ z ∷ []) st.3;
+      is_least = refl;
+    }
 
 pub runs_loop : RunsLoop
 runs_loop old s root k y xs h run e i =

@@ -9,4 +9,5 @@ pub mod Running
 pub mod ScriptExamples
 pub mod ScriptLines
 pub mod Sweeping
+pub mod VisitCounts
 pub mod Visiting

@@ -9,6 +9,7 @@
 //! ```
 #![tactic(auto)]
 
+pub mod counts;
 pub mod edits;
 pub mod outcomes;
 pub mod passes;

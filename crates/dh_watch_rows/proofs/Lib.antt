@@ -1,9 +1,11 @@
 pub mod DecidedRows
 pub mod Gaps
 pub mod Growing
+pub mod LoopedRows
 pub mod RecordedRows
 pub mod Removing
 pub mod Sifted
 pub mod Sifting
 pub mod Standing
 pub mod Undecided
+pub mod VisitedRows

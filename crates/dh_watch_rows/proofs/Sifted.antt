@@ -1,14 +1,11 @@
 -- What is kept before and after the pass over outcomes.
-use Rattle.std.specs.Prelude.{◌≡◌, ◌⊎◌, ◌<◌, ◌≤◌, ◌^◌, ℕ, true, false, is_some, List, [], length, map, reverse, filter, All, None, Some, slice_index_or, refl}
-use Rattle.std.specs.Option.{option_map}
+use Rattle.std.specs.Prelude.{◌≡◌, ◌⊎◌, ◌<◌, ◌≤◌, ◌^◌, ℕ, true, false, is_some, List, [], length, map, reverse, filter, All, Some, slice_index_or, refl}
 use Rattle.std.proofs.Common.{ap, sym, ◌∙◌, subst, inl, inr}
 use Rattle.std.proofs.lemmas.List.Elements.{All-nil, All-filter, All-weaker}
-use Rattle.dh_syntax.specs.declared.locations.Key.{Key}
 use Rattle.dh_syntax.specs.declared.locations.Loc.{Loc}
 use Rattle.dh_syntax.specs.Expressions.SameTree.{loc_eq}
 use Rattle.dh_syntax.proofs.SameTree.{locs_tell}
-use Rattle.dh_imports.specs.Outcomes.{plain}
-use Rattle.dh_imports.specs.Records.{Noted, Record, text_at}
+use Rattle.dh_imports.specs.Records.{Noted, text_at}
 use Rattle.dh_laws.proofs.KeyOrder.{bool-case, none-some}
 use Rattle.dh_demand.specs.Results.{ask_of}
 use Rattle.dh_record.specs.declared.rows.recorded.Entrant.{Entrant}
@@ -16,11 +13,11 @@ use Rattle.dh_record.specs.declared.rows.recorded.Look.{Look}
 use Rattle.dh_record.specs.declared.rows.recorded.Text.{Text}
 use Rattle.dh_record.specs.Entering.{AreDistinct, keys_in}
 use Rattle.dh_record.specs.Reading.{record_by}
-use Rattle.dh_record.specs.Rows.{key_named, limit_of, look_of, nobody, outcome_of_number, rows_of, text_of}
+use Rattle.dh_record.specs.Rows.{key_named, look_of, nobody, outcome_of_number, rows_of, text_of}
 use Rattle.dh_record.proofs.Decided.{number_itself, outcome_stands}
 use Rattle.dh_record.proofs.Reading.{asked_number, plan_limits}
 use Rattle.dh_watch_laws.specs.Kept.{Found, IsSound, Kept, known}
-use Rattle.dh_watch_laws.specs.Sweeping.{left, left_in_place, put_before, swept, with_texts}
+use Rattle.dh_watch_laws.specs.Sweeping.{left, left_in_place, swept, with_texts}
 use Rattle.dh_watch_laws.proofs.InPlace.{swept_in_place}
 use Rattle.dh_watch_laws.proofs.Sweeping.{swept_holds}
 use Rattle.dh_watch_rows.specs.Inside.Sifting.{Sifting, has_outcome}

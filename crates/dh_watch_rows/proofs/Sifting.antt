@@ -1,16 +1,15 @@
 -- The pass over outcomes: each look keeps what is known of it, and in the end it leaves what is due.
-use Rattle.std.specs.Prelude.{◌≡◌, ◌≢◌, ◌⊎◌, ◌<◌, ◌≤◌, ◌+◌, ◌++◌, ℕ, zero, suc, Bool, true, false, is_some, if◌then◌else◌, List, [], ◌∷◌, length, map, reverse, filter, take, drop, All, Option, Some, None, slice_index_or, slice_set, refl}
+use Rattle.std.specs.Prelude.{◌≡◌, ◌⊎◌, ◌<◌, ◌≤◌, ◌+◌, ◌++◌, ℕ, Bool, true, false, is_some, if◌then◌else◌, List, [], ◌∷◌, length, map, reverse, filter, take, drop, All, Option, Some, None, slice_index_or, slice_set, refl}
 use Rattle.std.specs.Option.{option_map}
 use Rattle.std.proofs.Common.{ap, sym, ◌∙◌, subst, inl, inr, arith, get_or}
 use Rattle.std.proofs.lemmas.Bool.Decides.{eqb_tells}
-use Rattle.std.proofs.lemmas.List.{append-nil, append_assoc, reverse-append, map_push, drop_more, take_more_set, drop-set-lt, get_or_read, take-set-le}
-use Rattle.std.proofs.lemmas.List.Elements.{All-nil, All-cons, All-head, All-tail, All-push}
+use Rattle.std.proofs.lemmas.List.{append-nil, append_assoc, reverse-append, map_push, drop_more, take_more_set, drop-set-lt}
+use Rattle.std.proofs.lemmas.List.Elements.{All-head, All-tail, All-push}
 use Rattle.dh_syntax.specs.declared.locations.Key.{Key}
 use Rattle.dh_syntax.specs.Imports.Keys.{key_eq}
-use Rattle.dh_imports.specs.declared.outcomes.Outcome as program
 use Rattle.dh_imports.specs.declared.outcomes.Why.{Why}
 use Rattle.dh_imports.specs.Outcomes.{Outcome, plain}
-use Rattle.dh_imports.specs.Records.{Record, lookup}
+use Rattle.dh_imports.specs.Records.{Record}
 use Rattle.dh_imports.specs.Resolver.{plan, of_plan, stage}
 use Rattle.dh_imports.specs.Walk.{Ask}
 use Rattle.dh_laws.proofs.KeyOrder.{bool-case, none-some, key_eq-true, key_eq-itself}
@@ -27,7 +26,6 @@ use Rattle.dh_watch_laws.specs.Kept.{Outcomes, Found, known, one_more}
 use Rattle.dh_watch_laws.specs.Sweeping.{is_due, left_in_place, limits_left, put_before}
 use Rattle.dh_watch_laws.proofs.InPlace.{found-before}
 use Rattle.dh_watch_rows.specs.Inside.Sifting.{Sifting, has_outcome}
-use Rattle.dh_watch_rows.specs.KeptRows.{AreNamed}
 use Rattle.dh_watch_rows.proofs.Undecided.{any, same-count, same-names, undecided-asks, undecided-here, undecided-keys, undecided-listed, undecided-read, undecided-same, undecided-valued}
 
 -- ---- outcomes put before others

@@ -1,5 +1,5 @@
 -- A key loses its outcome: what stays of the other keys.
-use Rattle.std.specs.Prelude.{◌≡◌, ◌≢◌, ◌⊎◌, ◌<◌, ℕ, zero, suc, Bool, true, false, if◌then◌else◌, List, [], ◌∷◌, length, All, Option, Some, None, Result, Ok, Err, slice_index_or, slice_set, refl}
+use Rattle.std.specs.Prelude.{◌≡◌, ◌≢◌, ◌⊎◌, ◌<◌, ℕ, zero, suc, true, false, if◌then◌else◌, List, [], ◌∷◌, length, All, Option, Some, None, Result, Ok, Err, slice_index_or, slice_set, refl}
 use Rattle.std.proofs.Common.{ap, sym, ◌∙◌, subst, inl, inr}
 use Rattle.std.proofs.lemmas.List.{get_or-set_same, get_or-set_other, length-set, length-map, set-set}
 use Rattle.std.proofs.lemmas.List.Elements.{All-weaker, All-set, All-get_or}
@@ -26,7 +26,7 @@ use Rattle.dh_record.specs.Due.{IsValued}
 use Rattle.dh_record.specs.Entering.{AreDistinct, IsListed, decided_at, key_of_entrant, keys_in, undecided_at}
 use Rattle.dh_record.specs.Reading.{IsRead, IsScan}
 use Rattle.dh_record.specs.Rows.{key_named, nobody, no_key, row_of_entrant, rows_of}
-use Rattle.dh_record.proofs.Decided.{decided_asks, names, number_itself, numbers, outcome_stands}
+use Rattle.dh_record.proofs.Decided.{decided_asks, number_itself, numbers, outcome_stands}
 use Rattle.dh_record.proofs.Reading.{asked_number}
 
 -- ---- the same keys

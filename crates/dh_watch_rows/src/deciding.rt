@@ -27,8 +27,8 @@ impl Rows {
     {
         self.found.reserve(1)?;
         self.limited.reserve(1)?;
-        done.is_last();
-        done.has_value();
+        done.by_last_step();
+        done.by_value();
         let limited = done.is_limit();
         self.keys.decide(n, done.into_outcome());
         put(&mut self.found, n);

@@ -22,5 +22,6 @@ mod reading;
 mod recording;
 mod rows;
 mod sweeping;
+mod visiting;
 
 pub use rows::Rows;

@@ -1,6 +1,6 @@
 -- Asks are answered.
-use Rattle.std.specs.Prelude.{◌≡◌, ◌+◌, ◌≤◌, ℕ, List, ◌∷◌, length, is_some, true, Option, Some, None}
-use Rattle.std.proofs.Common.{ap, ◌∙◌, subst, sym, arith, refl}
+use Rattle.std.specs.Prelude.{◌≡◌, ◌≤◌, ℕ, List, length, is_some, true, Option, Some, None}
+use Rattle.std.proofs.Common.{ap, subst, sym, arith, refl}
 use Rattle.std.proofs.lemmas.List.{length-append}
 use Rattle.dh_syntax.specs.declared.locations.Key.{Key}
 use Rattle.dh_imports.specs.Outcomes.{Outcome, Loop}

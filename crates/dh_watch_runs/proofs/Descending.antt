@@ -5,8 +5,10 @@ use Rattle.std.proofs.lemmas.List.{length-append, length-map}
 use Rattle.std.proofs.lemmas.List.Elements.{All-head, All-tail, All-cons, All-weaker}
 use Rattle.dh_syntax.specs.declared.locations.Key.{Key}
 use Rattle.dh_imports.specs.Resolver.{is_in, least_back_to}
-use Rattle.dh_watch_laws.specs.Kept.{Kept}
+use Rattle.dh_watch_laws.specs.Kept.{Kept, IsSound}
 use Rattle.dh_watch_laws.specs.Running.{stage_at, Runs, enters}
+use Rattle.dh_watch_laws.specs.VisitCounts.{ClosesLoop}
+use Rattle.dh_watch_laws.proofs.Running.{runs_close}
 use Rattle.dh_watch_runs.specs.Resolving.{named, trail_of, AreMore, GoesOn, IsWait, HasLooped, HasMany}
 use Rattle.dh_watch_runs.proofs.Reversing.{trail-more, in-reverse, trail-numbers}
 
@@ -62,6 +64,19 @@ met-loop old root keys s trail ns ms top next least e run w p i q l = record {
   closes = subst (λ z. is_in (named keys next) z ≡ true) (trail-numbers keys ns trail p ∙ ap (trail_of keys) e) (in-reverse (named keys next) (map (named keys) ns) ∙ i);
   is_least = l ∙ ap (least_back_to (named keys next)) (trail-numbers keys ms trail q ∙ ap (trail_of keys) e);
 }
+
+-- its chain
+pub met-chain : (old : Kept) (root : Key) (keys : List Key) (s : Kept) (trail ns ms : List ℕ) (top next least : ℕ) → IsSound old → trail ≡ top ∷ drop 1 trail
+    → Runs old root s (named keys top ∷ trail_of keys (drop 1 trail)) → IsWait keys (stage_at s (named keys top)) next
+    → reverse ns ≡ trail → is_in (named keys next) (map (named keys) ns) ≡ true
+    → reverse ms ≡ trail → named keys least ≡ least_back_to (named keys next) (reverse (map (named keys) ms))
+    → ClosesLoop s root (trail_of keys trail) (named keys least)
+unfolding met-loop
+met-chain old root keys s trail ns ms top next least h e run w p i q l =
+    let m = met-loop old root keys s trail ns ms top next least e run w p i q l in
+    subst (λ z. ClosesLoop s root (trail_of keys z) (named keys least)) (sym e)
+    (subst (ClosesLoop s root (named keys top ∷ trail_of keys (drop 1 trail))) (sym m.is_least)
+    (runs_close old s root (named keys top) (named keys next) (trail_of keys (drop 1 trail)) h run w.1 m.closes))
 
 -- the next key is entered
 pub entered : (old : Kept) (root : Key) (keys : List Key) (s : Kept) (trail ns : List ℕ) (top next : ℕ) → trail ≡ top ∷ drop 1 trail

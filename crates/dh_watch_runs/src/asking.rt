@@ -6,6 +6,7 @@ ghost use Rattle.dh_watch_laws.specs.Kept.{IsSound};
 ghost use Rattle.dh_watch_runs.specs.Resolving.{named, AreMore, AsksFor, StaysOver};
 ghost use Rattle.dh_watch_laws.specs.Asking.{Asked};
 ghost use Rattle.dh_watch_runs.specs.Asks.{ComesTo, IsRefused};
+ghost use Rattle.dh_watch_runs.specs.Endings.{LeavesChain};
 
 use crate::deciding::{End, Stop, decide};
 use crate::resolving::Resolver;
@@ -19,7 +20,7 @@ pub struct Resolution {
     pub fetched: usize,
 }
 
-/// Resolves the key of this number over what is kept.
+/// Resolves the key of this number over what is kept. Where it comes to a loop, the trail is left as the chain of keys that closes it.
 pub fn ask<S: Resolver>(
     alloc: Global,
     resolver: &mut S,
@@ -31,6 +32,7 @@ pub fn ask<S: Resolver>(
     requires sound { IsSound (S.kept resolver.old) }
     ensures asked { IfOk result (λ a. Asked (S.kept resolver.old) (named (S.keys resolver.old) root) (S.kept resolver.new) a.fetched) }
     ensures ended { IfOk result (λ a. ComesTo (named (S.keys resolver.old) root) (S.keys resolver.new) (S.kept resolver.new) a.end) }
+    ensures chain { IfOk result (λ a. LeavesChain (named (S.keys resolver.old) root) (S.keys resolver.new) (S.kept resolver.new) trail.new a.end) }
     ensures refused { IfErr result (IsRefused (S.kept resolver.old) (named (S.keys resolver.old) root) (S.kept resolver.new)) }
     ensures keys { AreMore (S.keys resolver.old) (S.keys resolver.new) }
     ensures sound { IsSound (S.kept resolver.new) }

@@ -6,7 +6,7 @@ ghost use Rattle.dh_watch_laws.specs.Kept.{known, IsSound};
 ghost use Rattle.dh_imports.specs.Resolver.{is_in, least_back_to, lesser};
 ghost use Rattle.dh_syntax.specs.Imports.Keys.{key_eq};
 ghost use Rattle.dh_watch_runs.specs.Resolving.{named, AreMore, AsksFor, HasStopped, HasMany, StaysOver};
-ghost use Rattle.dh_watch_runs.specs.Endings.{HasEnded};
+ghost use Rattle.dh_watch_runs.specs.Endings.{HasEnded, LeavesChain};
 
 use crate::resolving::{Progress, Refusal, Resolver};
 use crate::trails::Trail;
@@ -58,7 +58,7 @@ impl From<Refusal> for Stop {
 }
 
 /// Resolves the key of this number depth first, over what is kept: what its trail lacks is fetched, and each outcome that is found is
-/// kept.
+/// kept. Where it comes to a loop, the trail is left as the chain of keys that closes it.
 pub fn decide<S: Resolver>(
     alloc: Global,
     resolver: &mut S,
@@ -70,6 +70,7 @@ pub fn decide<S: Resolver>(
     requires sound { IsSound (S.kept resolver.old) }
     requires open { known (S.kept resolver.old).outcomes (named (S.keys resolver.old) root) ≡ None }
     ensures ended { IfOk result (HasEnded (S.kept resolver.old) (named (S.keys resolver.old) root) (S.keys resolver.new) (S.kept resolver.new)) }
+    ensures chain { IfOk result (LeavesChain (named (S.keys resolver.old) root) (S.keys resolver.new) (S.kept resolver.new) trail.new) }
     ensures stopped { IfErr result (λ _. HasStopped (S.kept resolver.old) (named (S.keys resolver.old) root) (S.kept resolver.new)) }
     ensures many { IfErr result (λ e. e ≡ Stop.TooMany → HasMany 4096 (S.kept resolver.old) (named (S.keys resolver.old) root) (S.kept resolver.new)) }
     ensures keys { AreMore (S.keys resolver.old) (S.keys resolver.new) }

@@ -31,7 +31,7 @@ SameAs x y = (l : Loc) → lookup loc_eq x l ≡ lookup loc_eq y l
 over-same : (x y : Now) (r : Record) → SameAs x y → IsOver x r → IsOver y r
 over-same x y r h o = record { texts = λ l t e. subst (λ z. IsTold z t) (h l) (o.texts l t e); looks = o.looks }
 
-asked-same : (x y : Now) (asked : List Loc) (l : Loc) (line : List ℕ) (s : Status) (n : ℕ) (new : List Loc) → SameAs x y → IsAsked x asked l line s n new
+abbrev asked-same : (x y : Now) (asked : List Loc) (l : Loc) (line : List ℕ) (s : Status) (n : ℕ) (new : List Loc) → SameAs x y → IsAsked x asked l line s n new
     → IsAsked y asked l line s n new
 asked-same x y asked l line s n new h a = record {
   recorded = a.recorded;
@@ -196,7 +196,7 @@ next b c _ _ _ _ (steps.answers l line is told most le) now asked exact g =
       then_exact = exact;
       stands = record { told = g.told; is = told ∙ g.is; same = g.same; least = a.kept; most = λ e. (a.exact (g.most e)).1 };
       before = λ rest out s refused h.
-          asks (asked-same g.told now asked l line.text line.status a.most a.new g.same a.is_asked) a.fewer (λ e. (a.exact (g.most e)).0) h;
+          asks (asked-same g.told now asked l line.text line.status a.most a.new g.same a.is_asked) a.few a.fewer (λ e. (a.exact (g.most e)).0) h;
     }
 next b c _ _ _ _ (steps.refuses l f is told most le fails) now asked exact g =
     let r = is g.told g.is in

@@ -1,5 +1,5 @@
 -- One pass over outcomes, the oldest first: those whose last step is due stay, and each other key loses its outcome.
-use Rattle.std.specs.Prelude.{◌≡◌, ◌<◌, ◌⊎◌, ℕ, Bool, is_some, List, [], map, reverse, All, Some, None, slice_index_or}
+use Rattle.std.specs.Prelude.{◌≡◌, ◌⊎◌, ℕ, Bool, is_some, List, [], map, reverse, All, Some, None, slice_index_or}
 use Rattle.dh_syntax.specs.declared.locations.Key.{Key}
 use Rattle.dh_imports.specs.Outcomes.{Outcome}
 use Rattle.dh_imports.specs.Records.{Record}

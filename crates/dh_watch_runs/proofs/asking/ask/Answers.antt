@@ -1,4 +1,4 @@
-use Rattle.std.specs.Prelude.{◌-◌, ◌≡◌, Some}
+use Rattle.std.specs.Prelude.{◌-◌}
 use Rattle.std.proofs.Common.{sym, ◌∙◌, arith}
 use Rattle.dh_watch_laws.specs.Asking.{kept}
 use Rattle.dh_watch_runs.specs.Resolving.{named}

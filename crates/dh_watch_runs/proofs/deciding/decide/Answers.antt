@@ -5,7 +5,7 @@ use Rattle.dh_watch_laws.specs.Running.{stage_at, Runs, begins}
 use Rattle.dh_watch_laws.proofs.Running.{runs-open}
 use Rattle.dh_watch_runs.specs.Progressing.{IsProgress}
 use Rattle.dh_watch_runs.specs.Resolving.{named, trail_of, AreMore, IsWait}
-use Rattle.dh_watch_runs.proofs.Descending.{more-itself, in-more, more-more, top-inside, rest-inside, advanced, shorter, met-loop, entered, entered-inside, met-many}
+use Rattle.dh_watch_runs.proofs.Descending.{more-itself, in-more, more-more, top-inside, rest-inside, advanced, shorter, met-loop, met-chain, entered, entered-inside, met-many}
 use Rattle.dh_watch_runs.proofs.Reversing.{err-any, numbers-inside}
 use Rattle.dh_watch_runs.proofs.deciding.decide.Goals as goal
 
@@ -93,6 +93,21 @@ returns-then-meets-clause-ended g c =
     let root = named (g.S.Resolver.keys c.args.resolver.now) c.args.root in (
       c.least_back.ensures.inside,
       met-loop old root more s' c.steps.trail c.numbers.result.now c.numbers-then-meets.result.now c.in-Some.top c.in-Wait.next c.least_back.result c.in-Some.ensures.some
+          (advanced old root keys more (g.S.Resolver.kept c.steps.resolver) s' c.steps.trail c.in-Some.top c.in-Some.ensures.some
+          c.steps.invariant.inside c.advance.ensures.keys c.advance.ensures.goes_on c.steps.invariant.runs)
+          (subst (λ z. IsProgress more (stage_at s' (named more c.in-Some.top)) z) c.in-Wait.is c.in_ok-advance.ensures.reach)
+          c.numbers.ensures (sym c.meets.ensures ∙ c.if-meets.true) c.numbers-then-meets.ensures c.least_back.ensures.least,
+    )
+
+pub returns-then-meets-clause-chain : goal.returns-then-meets-clause-chain
+returns-then-meets-clause-chain g c =
+    let keys = g.S.Resolver.keys c.steps.resolver in
+    let more = g.S.Resolver.keys c.advance.new.self in
+    let old = g.S.Resolver.kept c.args.resolver.now in
+    let s' = g.S.Resolver.kept c.advance.new.self in
+    let root = named (g.S.Resolver.keys c.args.resolver.now) c.args.root in (
+      in-more keys more c.advance.ensures.keys c.steps.trail c.steps.invariant.inside,
+      met-chain old root more s' c.steps.trail c.numbers.result.now c.numbers-then-meets.result.now c.in-Some.top c.in-Wait.next c.least_back.result c.requires.sound c.in-Some.ensures.some
           (advanced old root keys more (g.S.Resolver.kept c.steps.resolver) s' c.steps.trail c.in-Some.top c.in-Some.ensures.some
           c.steps.invariant.inside c.advance.ensures.keys c.advance.ensures.goes_on c.steps.invariant.runs)
           (subst (λ z. IsProgress more (stage_at s' (named more c.in-Some.top)) z) c.in-Wait.is c.in_ok-advance.ensures.reach)

@@ -26,7 +26,7 @@ returns-in-Ok-clause-answered g c =
     let s = kept_of c.resolve.new.self.watcher.source.rows in
     answered told (kept_of c.args.self.now.watcher.source.rows).recorded.texts old s c.args.loc.now c.in-Ok.line c.in_ok-resolved.resolved.fetched c.refresh.ensures.texts c.refresh.ensures.sound
     c.in_ok-resolved.ensures.asked
-    (λ now t. c.in_ok-resolved.ensures.watched.over now (c.in_ok-resolved.ensures.now ∙ (ap (λ f. g.F.Files.now f) c.refresh.ensures.files ∙ t))) (c.in-Ok.ensures.line c.args.loc.now c.in_ok-resolved.ensures.number.key_is) c.in-Ok.ensures.asked
+    (λ now t. c.in_ok-resolved.ensures.watched.over now (c.in_ok-resolved.ensures.now ∙ (ap (λ f. g.F.Files.now f) c.refresh.ensures.files ∙ t))) (c.in-Ok.ensures.line c.args.loc.now c.in_ok-resolved.ensures.number.key_is) c.in_ok-resolved.ensures.few c.in-Ok.ensures.asked
 
 pub returns-in-Err-clause-refused : goal.returns-in-Err-clause-refused
 returns-in-Err-clause-refused g c =

@@ -1,10 +1,13 @@
 use Rattle.std.proofs.Common.{sym, ◌∙◌, subst}
-use Rattle.dh_watch.specs.Watchers.{IsStopped}
+use Rattle.dh_watch.specs.Watchers.{IsStopped, MeetsFew}
 use Rattle.dh_watch_laws.specs.Editing.{locs_of}
 use Rattle.dh_watch_rows.specs.KeptRows.{kept_of}
 use Rattle.dh_watching.specs.Steps.{IsRefusal}
 use Rattle.dh_watch_asks.proofs.Answering.{asks-grown, asks-none, refused}
 use Rattle.dh_watch_asks.proofs.watched.Watch.resolve.Goals as goal
+
+pub returns-in-Ok-resolve-clause-few : goal.returns-in-Ok-resolve-clause-few
+returns-in-Ok-resolve-clause-few g c = subst (λ k. MeetsFew (kept_of c.resolve.new.self.source.rows) k) c.in-Ok.ensures c.in-Ok-resolve.ensures.few
 
 pub returns-in-Err-resolve-clause-refused : goal.returns-in-Err-resolve-clause-refused
 returns-in-Err-resolve-clause-refused g c =

@@ -21,7 +21,7 @@ returns-clause-good c =
     subst (λ ks. AreGood ks t.texts.items t.looks.items t.text_order.numbers.items t.look_order.numbers.items c.put.new.v.items c.put_if.new.v.items) (sym keys)
     (subst (λ z. AreGood (decided_at t.keys n o) t.texts.items t.looks.items t.text_order.numbers.items t.look_order.numbers.items z c.put_if.new.v.items) (sym found)
     (decided-good t.keys t.texts.items t.looks.items t.text_order.numbers.items t.look_order.numbers.items t.found.items t.limited.items c.requires.good n o c.requires.inside c.requires.open
-    c.put_if.new.v.items (subst (AreNamed t.keys) (sym limits) (limits-named t.keys t.limited.items n c.args.done.limited c.requires.good.limited_named c.requires.inside)) c.has_value.ensures))
+    c.put_if.new.v.items (subst (AreNamed t.keys) (sym limits) (limits-named t.keys t.limited.items n c.args.done.limited c.requires.good.limited_named c.requires.inside)) c.by_value.ensures))
 
 pub returns-clause-kept : goal.returns-clause-kept
 returns-clause-kept c =
@@ -35,7 +35,7 @@ returns-clause-kept c =
     record {
       limit = limit_by c.args.done.limited o;
       outcome = plain o;
-      is_last = is_last (kept_of t) (key_named t.keys n) c.args.done.item o c.args.done.limited c.requires.sound c.requires.open c.requires.item c.is_last.ensures;
+      is_last = is_last (kept_of t) (key_named t.keys n) c.args.done.item o c.args.done.limited c.requires.sound c.requires.open c.requires.item c.by_last_step.ensures;
       kept =
           (λ i. kept_by (keys i) t.texts.items t.looks.items (found i) c.put_if.new.v.items)
           ∙ decided-kept t.keys t.texts.items t.looks.items t.text_order.numbers.items t.look_order.numbers.items t.found.items t.limited.items c.requires.good n o c.requires.inside c.requires.open

@@ -1,7 +1,5 @@
-use Rattle.std.specs.Prelude.{◌≡◌, List, [], filter}
+use Rattle.std.specs.Prelude.{◌≡◌, [], filter}
 use Rattle.std.proofs.Common.{ap, sym, ◌∙◌, subst}
-use Rattle.dh_record.specs.declared.rows.recorded.Look.{Look}
-use Rattle.dh_record.specs.declared.rows.recorded.Text.{Text}
 use Rattle.dh_record.specs.Reading.{record_by}
 use Rattle.dh_watch_laws.specs.Kept.{IsSound}
 use Rattle.dh_watch_rows.specs.Inside.Sifting.{Sifting, has_outcome}
