@@ -2,7 +2,7 @@
 """Runs the command lines of a page, and compares what they print with what the page says.
 
     python3 tools/commands.py README.md docs/GUIDE.md          with the built program, crates/dhall/out/dhall
-    python3 tools/commands.py --program PATH README.md
+    python3 tools/commands.py --program PATH README.md         with that one; it is found by its file's name
 
 A fenced block `dhall` whose first line is `-- NAME` is written to the file NAME. In a fenced block `console`, or in an indented one, a
 line `$ COMMAND` is run by bash, with the lines `> MORE` below it, and the other lines are what it prints, on either stream. The
@@ -101,7 +101,7 @@ def outputs_of(steps, program, room):
     folder, bin_folder = os.path.join(room, "work"), os.path.join(room, "bin")
     for it in (home, folder, bin_folder):
         os.makedirs(it)
-    os.symlink(program, os.path.join(bin_folder, "dhall"))
+    os.symlink(program, os.path.join(bin_folder, os.path.basename(program)))
     script = os.path.join(room, "script")
     with open(script, "w", encoding="utf-8") as file:
         file.write(script_of(steps, mark))

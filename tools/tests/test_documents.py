@@ -1,9 +1,9 @@
 #!/usr/bin/env python3
-# needs: README.md CONTRIBUTING.md CHANGELOG.md docs completions crates.txt tools dhall
+# needs: README.md CONTRIBUTING.md CHANGELOG.md docs completions crates.txt tools dhall dhall_watch
 """The documents say what is: their command lines print what the pages say, their links lead to files, and the map of the crates has
 each crate of crates.txt under its heading.
 
-    DHALL=PATH python3 tools/tests/test_documents.py
+    DHALL=PATH DHALL_WATCH=PATH python3 tools/tests/test_documents.py
 """
 
 import os
@@ -15,6 +15,7 @@ import unittest
 HERE = os.path.dirname(os.path.abspath(__file__))
 ROOT = os.path.dirname(os.path.dirname(HERE))
 DHALL = os.environ.get("DHALL", f"{ROOT}/crates/dhall/out/dhall")
+DHALL_WATCH = os.environ.get("DHALL_WATCH", f"{ROOT}/crates/dhall_watch/out/dhall_watch")
 PAGES = ["README.md", "CONTRIBUTING.md", "CHANGELOG.md", *(f"docs/{it}" for it in sorted(os.listdir(f"{ROOT}/docs")) if it.endswith(".md"))]
 
 sys.path.insert(0, f"{ROOT}/tools")
@@ -27,16 +28,19 @@ def read(path):
 
 
 class Commands(unittest.TestCase):
-    def run_page(self, page):
-        count, wrong = commands.check(f"{ROOT}/{page}", DHALL)
+    def run_page(self, page, program=DHALL, least=10):
+        count, wrong = commands.check(f"{ROOT}/{page}", program)
         self.assertEqual("\n".join(wrong), "")
-        self.assertGreater(count, 10)
+        self.assertGreaterEqual(count, least)
 
     def test_readme(self):
         self.run_page("README.md")
 
     def test_guide(self):
         self.run_page("docs/GUIDE.md")
+
+    def test_watch(self):
+        self.run_page("docs/WATCH.md", DHALL_WATCH, 6)
 
     def test_a_page_that_says_something_else_is_found(self):
         page = "```dhall\n-- a.dhall\n1\n```\n```console\n$ cat a.dhall\n-- a.dhall\n1\n$ printf x\nx\n$ false; echo $?\n1\n```\n"
