@@ -38,14 +38,14 @@ ROWS = [
 ]
 
 
-def count(program, command, text):
-    """The instructions of a run, and what it wrote and ended with."""
-    with tempfile.TemporaryDirectory() as folder:
-        tool = ["valgrind", "--tool=callgrind", f"--callgrind-out-file={folder}/counts", program, command]
-        ran = subprocess.run(tool, input=text.encode(), capture_output=True, cwd=folder, env=dict(os.environ, XDG_CACHE_HOME=folder))
+def count(words, text, folder=None):
+    """The instructions of a run of a command on a text, and what it wrote and ended with. It runs in a folder, or else in an empty one."""
+    with tempfile.TemporaryDirectory() as empty:
+        tool = ["valgrind", "--tool=callgrind", f"--callgrind-out-file={empty}/counts", *words]
+        ran = subprocess.run(tool, input=text.encode(), capture_output=True, cwd=folder or empty, env=dict(os.environ, XDG_CACHE_HOME=empty))
     found = re.search(rb"Collected : (\d+)", ran.stderr)
     if found is None:
-        sys.exit(f"valgrind counted nothing of {program} {command}: {ran.stderr[-200:].decode(errors='replace')}")
+        sys.exit(f"valgrind counted nothing of {' '.join(words)}: {ran.stderr[-200:].decode(errors='replace')}")
     return int(found.group(1)), (ran.returncode, ran.stdout)
 
 
@@ -54,10 +54,10 @@ class Counted:
 
     def __init__(self, path):
         self.path = os.path.abspath(path)
-        self.start = count(self.path, "encode", "1")[0]
+        self.start = count([self.path, "encode"], "1")[0]
 
     def row(self, command, text):
-        counted, answer = count(self.path, command, text)
+        counted, answer = count([self.path, command], text)
         return max(counted - self.start, 1), answer
 
 

@@ -8,13 +8,18 @@ fresh run of that program's `hash`, by one worker, over the same contents as fil
 edit and an ask are. Then it prints the time of a thousand edits
 before one ask, and the memory after ten and after ten thousand edits and asks of one file, beside that of a script as long without
 asks. The least of a few runs counts, since other work on the machine only adds. Plain Python 3, a minute or two.
+
+With --count it prints the first of these tables alone, with millions of instructions in the place of times. Valgrind counts them, and no
+other work on the machine changes them. What a run of `hash` on `1` executes is taken off the fresh run. That takes some minutes.
 """
 import argparse
 import os
 import random
+import shutil
 import sys
 import tempfile
 
+import instructions
 import speed
 
 MOST_BYTES = 1_048_576
@@ -62,10 +67,18 @@ def sets(files):
     return "".join(put(at, text) for at, text in files.items())
 
 
+def best_of(given, program, words, text, folder=None):
+    """The best of some runs, as speed.py tells it; with --count one run, with its millions of instructions as its time, and no memory."""
+    if given.count:
+        counted, (status, out) = instructions.count([program, *words], text, folder)
+        return counted / 1e6, 0, status, out, b""
+    return speed.best(program, words, text.encode(), given.tries, folder)
+
+
 def ran(given, script):
     """The best of some runs on a script, which is to answer each ask with a digest."""
     assert len(script) <= MOST_BYTES, f"a script of {len(script)} bytes"
-    best = speed.best(given.program, [], script.encode(), given.tries)
+    best = best_of(given, given.program, [], script)
     lines = best[3].decode().splitlines()
     if best[2] != 0 or len(lines) != script.count("ask "):
         sys.exit(f"ended with {best[2]}: {best[4].decode()} {lines[-1:]}")
@@ -73,20 +86,23 @@ def ran(given, script):
 
 
 def fresh_run(given, files):
-    """The time of a run of `hash` over these files in a folder, which is to answer a digest."""
+    """The time of a run of `hash` over these files in a folder, which is to answer a digest; with --count less that of a run on `1`."""
+    words = ["hash", "--workers", "1"]
     with tempfile.TemporaryDirectory() as folder:
         for at, text in files.items():
             with open(os.path.join(folder, at), "w") as file:
                 file.write(text)
-        best = speed.best(given.dhall, ["hash", "--workers", "1"], b"./f0", given.tries, folder)
+        best = best_of(given, given.dhall, words, "./f0", folder)
     if best[2] != 0:
         sys.exit(f"a fresh run ended with {best[2]}: {best[4].decode()}")
-    return best[0]
+    return best[0] - best_of(given, given.dhall, words, "1")[0] if given.count else best[0]
 
 
 def show_edits(given):
-    more = ["Fresh run", "Times as fast"] if given.dhall else []
-    speed.head(given, ["Graph", "Files", "Edited", "Stand on it", "First ask", "An edit and an ask", "Times as fast", *more])
+    unit, times = (", millions", "Times fewer") if given.count else ("", "Times as fast")
+    of_all, of_one, of_times = (".1f", ".2f", ".1f") if given.count else (".3f", ".5f", ".0f")
+    more = ["Fresh run" + unit, times] if given.dhall else []
+    speed.head(given, ["Graph", "Files", "Edited", "Stand on it", "First ask" + unit, "An edit and an ask" + unit, times, *more])
     for make, name in [(chain, "chain"), (fan, "fan"), (tangle, "random graph")]:
         files = make(given.files)
         start = sets(files)
@@ -99,8 +115,8 @@ def show_edits(given):
             more = "".join(put(at, f"{files[at]} + {k}") + "ask ./f0\n" for k in range(given.edits))
             each = (ran(given, start + "ask ./f0\n" + more)[0] - first) / given.edits
             fresh = first - without
-            cells = [name, given.files, at, standing_on(files, at), f"{fresh:.3f}", f"{each:.5f}", f"{fresh / each:.0f}"]
-            cells += [f"{anew:.3f}", f"{anew / each:.0f}"] if given.dhall else []
+            cells = [name, given.files, at, standing_on(files, at), f"{fresh:{of_all}}", f"{each:{of_one}}", f"{fresh / each:{of_times}}"]
+            cells += [f"{anew:{of_all}}", f"{anew / each:{of_times}}"] if given.dhall else []
             print("| " + " | ".join(str(cell) for cell in cells) + " |", flush=True)
 
 
@@ -126,14 +142,18 @@ def main():
     parser.add_argument("--files", type=int, default=4000, help="how many files a graph has (4000)")
     parser.add_argument("--edits", type=int, default=20, help="how many edits are timed together (20)")
     parser.add_argument("--tries", type=int, default=3)
+    parser.add_argument("--count", action="store_true", help="instructions by valgrind, in the place of times")
     given = parser.parse_args()
     given.program, given.compare = os.path.abspath(given.program), None
     if not os.access(given.program, os.X_OK):
         sys.exit(f"no program at {given.program}: build it first (make build)")
+    if given.count and shutil.which("valgrind") is None:
+        sys.exit("valgrind is not here")
     if given.dhall:
         given.dhall = os.path.abspath(given.dhall)
     show_edits(given)
-    show_many(given)
+    if not given.count:
+        show_many(given)
 
 
 if __name__ == "__main__":
