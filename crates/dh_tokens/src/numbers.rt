@@ -224,6 +224,9 @@ pub fn number(rest: &[u8]) -> Form
 /// The least number at which one more digit may be too much for 64 bits.
 const MANY: u64 = 1_844_674_407_370_955_161;
 
+/// How many digits a number of 64 bits has at most. No more are read, so that a run of zeros is not read to its end at each place.
+const MOST_DIGITS: usize = 20;
+
 /// The number that the digits at the front write, and how many there are, where it has 64 bits.
 fn decimal(rest: &[u8]) -> Option<(u64, usize)>
     ensures len { IfSome result (λ d. d.1 ≡ prefix_len is_ascii_digit rest.now) }
@@ -237,6 +240,9 @@ fn decimal(rest: &[u8]) -> Option<(u64, usize)>
             break;
         }
         if value >= MANY {
+            return None;
+        }
+        if n == MOST_DIGITS {
             return None;
         }
         value = value * 10 + u64::from(*b - b'0');
