@@ -1,5 +1,5 @@
 //! The loop over the tokens of a text.
-ghost use Rattle.std.specs.Prelude.{◌≡◌, ◌<◌, ◌^◌, [], length, not, ◌||◌, IfOk, IfErr};
+ghost use Rattle.std.specs.Prelude.{◌≡◌, ◌<◌, ◌^◌, [], length, not, ◌||◌, OnOk, IfOk, IfErr};
 ghost use Rattle.dh_reader.specs.Stacks.{stack_of};
 ghost use Rattle.dh_reader.specs.States.{state_of};
 ghost use Rattle.dh_grammar.specs.Depths.{Within, opens_many};
@@ -75,10 +75,10 @@ fn opens_many<M: Makes>(frames: &Frames<M>, place: &Top<M>, kind: &TokenKind) ->
 }
 
 /// One token read, with the white space that it needs before it.
-fn step<M: Makes>(reader: &mut Reader<M>, place: Top<M>, token: Token) -> Result<Top<M>, ParseFault>
-    requires { Within (state_of M.views reader.old.frames place) }
-    ensures read { IfOk result (λ p. Reads M.makes reader.old.at (state_of M.views reader.old.frames place) token (state_of M.views reader.new.frames p)) }
-    ensures fault { IfErr result (Refuses M.makes reader.old.at (state_of M.views reader.old.frames place) token) }
+fn step<M: Makes>(reader: &mut Reader<M>, token: Token) -> Result<(), ParseFault>
+    requires { Within (state_of M.views reader.old.frames reader.old.top) }
+    ensures read { OnOk result (Reads M.makes reader.old.at (state_of M.views reader.old.frames reader.old.top) token (state_of M.views reader.new.frames reader.new.top)) }
+    ensures fault { IfErr result (Refuses M.makes reader.old.at (state_of M.views reader.old.frames reader.old.top) token) }
 {
     let Token {
         kind,
@@ -86,18 +86,17 @@ fn step<M: Makes>(reader: &mut Reader<M>, place: Top<M>, token: Token) -> Result
         to: _,
         gap,
     } = token;
-    if !has_gap(&reader.frames, &place, &kind, gap) {
-        drop((place, kind));
+    if !has_gap(&reader.frames, &reader.top, &kind, gap) {
+        drop(kind);
         return Err(ParseFault::Syntax(from));
     }
-    let is_deep = opens_many(&reader.frames, &place, &kind);
-    match reader.after(place, kind) {
-        Ok(next) => {
+    let is_deep = opens_many(&reader.frames, &reader.top, &kind);
+    match reader.after(kind) {
+        Ok(()) => {
             if is_deep {
-                drop(next);
                 return Err(ParseFault::TooNested);
             }
-            Ok(next)
+            Ok(())
         }
         Err(Stop::Refused) => Err(ParseFault::Syntax(from)),
         Err(Stop::Memory) => Err(ParseFault::Memory),
@@ -112,17 +111,23 @@ pub fn read<M: Makes>(alloc: Global, tokens: Tokens) -> Result<M::Tree, ParseFau
     ensures fault { IfErr result (IsFault (reading_at M.makes 0 (need []) tokens)) }
 {
     let mut reader: Reader<M> = Reader::new(alloc);
-    let mut place: Top<M> = Top::Need;
     let mut at = 0;
     for token in tokens.into_vec() {
         reader.at = at;
-        match step(&mut reader, place, token) {
-            Ok(next) => place = next,
+        match step(&mut reader, token) {
+            Ok(()) => {}
             Err(fault) => return Err(fault),
         }
         at += 1;
     }
-    match place {
+    let Reader {
+        alloc: _,
+        at: _,
+        frames,
+        top,
+    } = reader;
+    drop(frames);
+    match top {
         Top::Done(operand) => Ok(operand),
         // The last token was `End`, behind which nothing is awaited.
         Top::Need | Top::Have(_) | Top::Wait(_) => unreachable!(),

@@ -8,10 +8,9 @@ use Rattle.dh_reader.specs.States.{state_of}
 use Rattle.dh_reader.specs.declared.reader.Reader.{Reader}
 use Rattle.dh_reader.specs.declared.stops.Stop.{Stop}
 use Rattle.dh_reader.specs.declared.stops.Stop.TheVariants.{Refused}
-use Rattle.dh_reader.specs.declared.tops.Top.{Top}
 
 -- the builder, what it builds and what that stands for
 module _ {M Tree Note Lets Chunks Items Alternatives Fields Entry Entries : Type 0} {K : Sorts} (v : Views Tree Note Lets Chunks Items Alternatives Fields Entry Entries K) where
-  -- the frames and the top that is answered are this state of the machine; a token is refused only where this is no state
-  abbrev pub Follows : {G : Ghosts M Tree Note Lets Chunks Items Alternatives Fields Entry Entries} → State K → Reader M Tree Note Lets Chunks Items Alternatives Fields Entry Entries G → Result (Top M Tree Note Lets Chunks Items Alternatives Fields Entry Entries) Stop → Type 0
-  Follows s reader result = MatchResult result (λ top. s ≡ state_of v reader.frames top) (λ stop. stop ≡ Refused → s ≡ stopped)
+  -- the frames and the top of the reader are this state of the machine; a token is refused only where this is no state
+  abbrev pub Follows : {G : Ghosts M Tree Note Lets Chunks Items Alternatives Fields Entry Entries} → State K → Reader M Tree Note Lets Chunks Items Alternatives Fields Entry Entries G → Result (Unit {0}) Stop → Type 0
+  Follows s reader result = MatchResult result (λ _. s ≡ state_of v reader.frames reader.top) (λ stop. stop ≡ Refused → s ≡ stopped)

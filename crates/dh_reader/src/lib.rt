@@ -2,10 +2,9 @@
 //!
 //! ```text
 //! let mut reader = Reader::<Expressions>::new(alloc);
-//! let mut top = Top::Need;                                  // an expression begins
-//! top = reader.after(top, TokenKind::Natural(1))?;          // Top::Have: an operand has been read
+//! reader.after(TokenKind::Natural(1))?;                     // reader.top is Top::Have: an operand has been read
 //! reader.at = 1;                                            // the number of the next token
-//! top = reader.after(top, TokenKind::End)?;                 // Top::Done: what the builder made of `1`
+//! reader.after(TokenKind::End)?;                            // reader.top is Top::Done: what the builder made of `1`
 //! ```
 //!
 //! Frames and top together are a state of the machine of the grammar (`Machine` in `dh_grammar`), and each function does what

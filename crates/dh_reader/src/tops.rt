@@ -1,10 +1,12 @@
 //! What stands above the frames.
-ghost use Rattle.std.specs.Prelude.{◌≡◌};
+ghost use Rattle.std.specs.Prelude.{◌≡◌, true};
+ghost use Rattle.dh_reader.specs.Inside.Tops.{has_operand, is_ready, is_waiting};
 ghost use Rattle.dh_reader.specs.declared.tops.Held.TheVariants as helds;
 ghost use Rattle.dh_reader.specs.declared.tops.Top.TheVariants as tops;
 
 use dh_making::{EntryKey, Keys, Makes, Projection, Source, Word};
 use dh_syntax::{Digest, TextForm};
+use std::mem::{forget, replace};
 
 /// What an import asks for, with its digest.
 #[derive(Drop)]
@@ -108,10 +110,59 @@ pub enum Top<M: Makes> {
 }
 
 impl<M: Makes> Top<M> {
-    /// An operand that takes no more tokens of its own.
-    pub(crate) fn ready(operand: M::Tree) -> Top<M>
-        ensures { result ≡ tops.Have (helds.Ready operand) }
+    /// Puts this where nothing stands. What was there is forgotten, since to drop it takes a test for each form.
+    pub(crate) fn put(&mut self, top: Top<M>)
+        requires { self.old ≡ tops.Need }
+        ensures { self.new ≡ top }
     {
-        Top::Have(Held::Ready(operand))
+        forget(replace(self, top));
+    }
+
+    /// Whether an operand has been read that takes no more tokens of its own.
+    pub(crate) fn is_ready(&self) -> bool
+        ensures { result ≡ is_ready self.now }
+    {
+        match self {
+            Top::Have(Held::Ready(_)) => true,
+            Top::Have(Held::Named(_) | Held::Imported(_)) => false,
+            Top::Need | Top::Wait(_) | Top::Done(_) => false,
+        }
+    }
+
+    /// Takes out the operand.
+    pub(crate) fn take_ready(&mut self) -> M::Tree
+        requires { is_ready self.old ≡ true }
+        ensures taken { self.old ≡ tops.Have (helds.Ready result) }
+        ensures left { self.new ≡ tops.Need }
+    {
+        match replace(self, Top::Need) {
+            Top::Have(Held::Ready(operand)) => operand,
+            Top::Have(Held::Named(_) | Held::Imported(_)) => unreachable!(),
+            Top::Need | Top::Wait(_) | Top::Done(_) => unreachable!(),
+        }
+    }
+
+    /// Takes out the operand, of which more may come.
+    pub(crate) fn take_held(&mut self) -> Held<M>
+        requires { has_operand self.old ≡ true }
+        ensures taken { self.old ≡ tops.Have result }
+        ensures left { self.new ≡ tops.Need }
+    {
+        match replace(self, Top::Need) {
+            Top::Have(held) => held,
+            Top::Need | Top::Wait(_) | Top::Done(_) => unreachable!(),
+        }
+    }
+
+    /// Takes out what is awaited.
+    pub(crate) fn take_wait(&mut self) -> Wait<M>
+        requires { is_waiting self.old ≡ true }
+        ensures taken { self.old ≡ tops.Wait result }
+        ensures left { self.new ≡ tops.Need }
+    {
+        match replace(self, Top::Need) {
+            Top::Wait(wait) => wait,
+            Top::Need | Top::Have(_) | Top::Done(_) => unreachable!(),
+        }
     }
 }

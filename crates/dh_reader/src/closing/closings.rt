@@ -1,15 +1,15 @@
 //! Tokens that end the place of a frame, or the text.
-ghost use Rattle.std.specs.Prelude.{[]};
+ghost use Rattle.std.specs.Prelude.{◌≡◌, []};
 ghost use Rattle.dh_grammar.specs.Machine.{close_on, closed};
 ghost use Rattle.dh_reader.specs.Closings.{closing_kind};
 ghost use Rattle.dh_reader.specs.Follows.{Follows};
 ghost use Rattle.dh_reader.specs.Frames.{shut_of};
 ghost use Rattle.dh_reader.specs.Stacks.{stack_of};
+ghost use Rattle.dh_reader.specs.declared.tops.Top.TheVariants as tops;
 
 use crate::frames::{Frame, Shut};
 use crate::reader::Reader;
 use crate::stops::{Stop, refused};
-use crate::tops::Top;
 use dh_making::Makes;
 
 /// A token that ends the place of a frame, or the text.
@@ -40,12 +40,8 @@ pub enum Closing {
 
 impl<M: Makes> Shut<M> {
     /// A token behind the operand in the place of the frame.
-    fn closed(
-        self,
-        reader: &mut Reader<M>,
-        closing: Closing,
-        operand: M::Tree,
-    ) -> Result<Top<M>, Stop>
+    fn closed(self, reader: &mut Reader<M>, closing: Closing, operand: M::Tree) -> Result<(), Stop>
+        requires { reader.old.top ≡ tops.Need }
         ensures { Follows M.views (closed (M.makes reader.old.at) (closing_kind closing) (shut_of M.views self) (M.views.tree operand) (stack_of M.views reader.old.frames)) reader.new result }
     {
         match closing {
@@ -71,7 +67,8 @@ pub fn close<M: Makes>(
     reader: &mut Reader<M>,
     closing: Closing,
     operand: M::Tree,
-) -> Result<Top<M>, Stop>
+) -> Result<(), Stop>
+    requires { reader.old.top ≡ tops.Need }
     ensures { Follows M.views (close_on (M.makes reader.old.at) (closing_kind closing) (stack_of M.views reader.old.frames) (M.views.tree operand)) reader.new result }
 {
     match reader.frames.pop() {
@@ -82,11 +79,12 @@ pub fn close<M: Makes>(
 }
 
 /// A token behind an operand that stands in no frame.
-fn end<M: Makes>(reader: &Reader<M>, closing: Closing, operand: M::Tree) -> Result<Top<M>, Stop>
-    ensures { Follows M.views (close_on (M.makes reader.now.at) (closing_kind closing) [] (M.views.tree operand)) reader.now result }
+fn end<M: Makes>(reader: &mut Reader<M>, closing: Closing, operand: M::Tree) -> Result<(), Stop>
+    requires { reader.old.top ≡ tops.Need }
+    ensures { Follows M.views (close_on (M.makes reader.old.at) (closing_kind closing) [] (M.views.tree operand)) reader.new result }
 {
     match closing {
-        Closing::End => Ok(Top::Done(operand)),
+        Closing::End => reader.enter_done(operand),
         _ => Err(refused(operand)),
     }
 }

@@ -1,11 +1,12 @@
 //! Marks that end the place of a frame.
-ghost use Rattle.std.specs.Prelude.{option_map};
+ghost use Rattle.std.specs.Prelude.{◌≡◌, option_map};
 ghost use Rattle.dh_grammar.specs.Machine as machine;
 ghost use Rattle.dh_grammar.specs.Machine.{closed};
 ghost use Rattle.dh_making.specs.Words.{key_of, keys_of};
 ghost use Rattle.dh_reader.specs.Follows.{Follows};
 ghost use Rattle.dh_reader.specs.Frames.{shut_of};
 ghost use Rattle.dh_reader.specs.Stacks.{stack_of};
+ghost use Rattle.dh_reader.specs.declared.tops.Top.TheVariants as tops;
 ghost use Rattle.dh_syntax.specs.declared.tokens.Mark.TheVariants as marks;
 ghost use Rattle.dh_syntax.specs.declared.tokens.TokenKind.TheVariants as kinds;
 
@@ -13,29 +14,31 @@ use crate::closing::entries::and_entry;
 use crate::frames::Shut;
 use crate::reader::Reader;
 use crate::stops::{Stop, refused};
-use crate::tops::{Top, Wait};
+use crate::tops::Wait;
 use dh_making::{EntryKey, Keys, Makes};
 
 impl<M: Makes> Shut<M> {
     /// `)` behind the operand in the place of the frame.
     pub(crate) fn closed_by_paren(
         self,
-        reader: &Reader<M>,
+        reader: &mut Reader<M>,
         operand: M::Tree,
-    ) -> Result<Top<M>, Stop>
-        ensures { Follows M.views (closed (M.makes reader.now.at) (kinds.Mark marks.ParenClose) (shut_of M.views self) (M.views.tree operand) (stack_of M.views reader.now.frames)) reader.now result }
+    ) -> Result<(), Stop>
+        requires { reader.old.top ≡ tops.Need }
+        ensures { Follows M.views (closed (M.makes reader.old.at) (kinds.Mark marks.ParenClose) (shut_of M.views self) (M.views.tree operand) (stack_of M.views reader.old.frames)) reader.new result }
     {
         match self {
-            Shut::Bracket => Ok(Top::ready(M::brackets(reader.alloc, reader.at, operand)?)),
-            Shut::Domain(is_lambda, word) => Ok(Top::Wait(Wait::Domained(
-                is_lambda, word, operand,
-            ))),
-            Shut::Selected(whole) => Ok(Top::ready(M::project_by(
-                reader.alloc,
-                reader.at,
-                whole,
-                operand,
-            )?)),
+            Shut::Bracket => {
+                let made = M::brackets(reader.alloc, reader.at, operand)?;
+                reader.enter_ready(made)
+            }
+            Shut::Domain(is_lambda, word) => {
+                reader.enter_wait(Wait::Domained(is_lambda, word, operand))
+            }
+            Shut::Selected(whole) => {
+                let made = M::project_by(reader.alloc, reader.at, whole, operand)?;
+                reader.enter_ready(made)
+            }
             other => Err(refused((other, operand))),
         }
     }
@@ -43,15 +46,17 @@ impl<M: Makes> Shut<M> {
     /// `]` behind the operand in the place of the frame.
     pub(crate) fn closed_by_bracket(
         self,
-        reader: &Reader<M>,
+        reader: &mut Reader<M>,
         operand: M::Tree,
-    ) -> Result<Top<M>, Stop>
-        ensures { Follows M.views (closed (M.makes reader.now.at) (kinds.Mark marks.BracketClose) (shut_of M.views self) (M.views.tree operand) (stack_of M.views reader.now.frames)) reader.now result }
+    ) -> Result<(), Stop>
+        requires { reader.old.top ≡ tops.Need }
+        ensures { Follows M.views (closed (M.makes reader.old.at) (kinds.Mark marks.BracketClose) (shut_of M.views self) (M.views.tree operand) (stack_of M.views reader.old.frames)) reader.new result }
     {
         match self {
             Shut::Items(has_leading, items) => {
                 let items = M::add_item(reader.alloc, reader.at, items, operand)?;
-                Ok(Top::ready(M::list(reader.alloc, reader.at, has_leading, items, false)?))
+                let made = M::list(reader.alloc, reader.at, has_leading, items, false)?;
+                reader.enter_ready(made)
             }
             other => Err(refused((other, operand))),
         }
@@ -60,19 +65,22 @@ impl<M: Makes> Shut<M> {
     /// `}` behind the operand in the place of the frame.
     pub(crate) fn closed_by_brace(
         self,
-        reader: &Reader<M>,
+        reader: &mut Reader<M>,
         operand: M::Tree,
-    ) -> Result<Top<M>, Stop>
-        ensures { Follows M.views (closed (M.makes reader.now.at) (kinds.Mark marks.BraceClose) (shut_of M.views self) (M.views.tree operand) (stack_of M.views reader.now.frames)) reader.now result }
+    ) -> Result<(), Stop>
+        requires { reader.old.top ≡ tops.Need }
+        ensures { Follows M.views (closed (M.makes reader.old.at) (kinds.Mark marks.BraceClose) (shut_of M.views self) (M.views.tree operand) (stack_of M.views reader.old.frames)) reader.new result }
     {
         match self {
             Shut::FieldType(has_leading, fields, key) => {
                 let fields = M::add_field(reader.alloc, reader.at, fields, key, operand)?;
-                Ok(Top::ready(M::record_type(reader.alloc, reader.at, has_leading, fields, false)?))
+                let made = M::record_type(reader.alloc, reader.at, has_leading, fields, false)?;
+                reader.enter_ready(made)
             }
             Shut::EntryValue(has_leading, entries, keys) => {
                 let entries = and_entry(reader, entries, keys, operand)?;
-                Ok(Top::ready(M::record_of(reader.alloc, reader.at, has_leading, entries, false)?))
+                let made = M::record_of(reader.alloc, reader.at, has_leading, entries, false)?;
+                reader.enter_ready(made)
             }
             other => Err(refused((other, operand))),
         }
@@ -81,10 +89,11 @@ impl<M: Makes> Shut<M> {
     /// `>` behind the operand in the place of the frame.
     pub(crate) fn closed_by_angle(
         self,
-        reader: &Reader<M>,
+        reader: &mut Reader<M>,
         operand: M::Tree,
-    ) -> Result<Top<M>, Stop>
-        ensures { Follows M.views (closed (M.makes reader.now.at) (kinds.Mark marks.AngleClose) (shut_of M.views self) (M.views.tree operand) (stack_of M.views reader.now.frames)) reader.now result }
+    ) -> Result<(), Stop>
+        requires { reader.old.top ≡ tops.Need }
+        ensures { Follows M.views (closed (M.makes reader.old.at) (kinds.Mark marks.AngleClose) (shut_of M.views self) (M.views.tree operand) (stack_of M.views reader.old.frames)) reader.new result }
     {
         match self {
             Shut::AlternativeType(has_leading, alternatives, key) => {
@@ -96,7 +105,8 @@ impl<M: Makes> Shut<M> {
                     key,
                     note,
                 )?;
-                Ok(Top::ready(M::union(reader.alloc, reader.at, has_leading, alternatives, false)?))
+                let made = M::union(reader.alloc, reader.at, has_leading, alternatives, false)?;
+                reader.enter_ready(made)
             }
             other => Err(refused((other, operand))),
         }
@@ -107,7 +117,8 @@ impl<M: Makes> Shut<M> {
         self,
         reader: &mut Reader<M>,
         operand: M::Tree,
-    ) -> Result<Top<M>, Stop>
+    ) -> Result<(), Stop>
+        requires { reader.old.top ≡ tops.Need }
         ensures { Follows M.views (closed (M.makes reader.old.at) (kinds.Mark marks.Comma) (shut_of M.views self) (M.views.tree operand) (stack_of M.views reader.old.frames)) reader.new result }
     {
         match self {
@@ -127,7 +138,8 @@ impl<M: Makes> Shut<M> {
         self,
         reader: &mut Reader<M>,
         operand: M::Tree,
-    ) -> Result<Top<M>, Stop>
+    ) -> Result<(), Stop>
+        requires { reader.old.top ≡ tops.Need }
         ensures { Follows M.views (closed (M.makes reader.old.at) (kinds.Mark marks.Equals) (shut_of M.views self) (M.views.tree operand) (stack_of M.views reader.old.frames)) reader.new result }
     {
         match self {
@@ -140,8 +152,9 @@ impl<M: Makes> Shut<M> {
     }
 
     /// `|` behind the operand in the place of the frame.
-    pub(crate) fn closed_by_bar(self, reader: &Reader<M>, operand: M::Tree) -> Result<Top<M>, Stop>
-        ensures { Follows M.views (closed (M.makes reader.now.at) (kinds.Mark marks.Bar) (shut_of M.views self) (M.views.tree operand) (stack_of M.views reader.now.frames)) reader.now result }
+    pub(crate) fn closed_by_bar(self, reader: &mut Reader<M>, operand: M::Tree) -> Result<(), Stop>
+        requires { reader.old.top ≡ tops.Need }
+        ensures { Follows M.views (closed (M.makes reader.old.at) (kinds.Mark marks.Bar) (shut_of M.views self) (M.views.tree operand) (stack_of M.views reader.old.frames)) reader.new result }
     {
         match self {
             Shut::AlternativeType(has_leading, alternatives, key) => {
@@ -153,7 +166,7 @@ impl<M: Makes> Shut<M> {
                     key,
                     note,
                 )?;
-                Ok(Top::Wait(Wait::AlternativeBar(has_leading, alternatives)))
+                reader.enter_wait(Wait::AlternativeBar(has_leading, alternatives))
             }
             other => Err(refused((other, operand))),
         }
@@ -169,7 +182,8 @@ fn item_comma<M: Makes>(
     has_leading: bool,
     items: Option<M::Items>,
     item: M::Tree,
-) -> Result<Top<M>, Stop>
+) -> Result<(), Stop>
+    requires { reader.old.top ≡ tops.Need }
     ensures { Follows M.views (closed (M.makes reader.old.at) (kinds.Mark marks.Comma) (machine.items has_leading (option_map M.views.items items)) (M.views.tree item) (stack_of M.views reader.old.frames)) reader.new result }
 {
     let items = M::add_item(reader.alloc, reader.at, items, item)?;
@@ -178,28 +192,30 @@ fn item_comma<M: Makes>(
 
 /// `,` behind the type of a field.
 fn field_comma<M: Makes>(
-    reader: &Reader<M>,
+    reader: &mut Reader<M>,
     has_leading: bool,
     fields: Option<M::Fields>,
     key: EntryKey,
     field: M::Tree,
-) -> Result<Top<M>, Stop>
-    ensures { Follows M.views (closed (M.makes reader.now.at) (kinds.Mark marks.Comma) (machine.field_type has_leading (option_map M.views.fields fields) (key_of key)) (M.views.tree field) (stack_of M.views reader.now.frames)) reader.now result }
+) -> Result<(), Stop>
+    requires { reader.old.top ≡ tops.Need }
+    ensures { Follows M.views (closed (M.makes reader.old.at) (kinds.Mark marks.Comma) (machine.field_type has_leading (option_map M.views.fields fields) (key_of key)) (M.views.tree field) (stack_of M.views reader.old.frames)) reader.new result }
 {
     let fields = M::add_field(reader.alloc, reader.at, fields, key, field)?;
-    Ok(Top::Wait(Wait::FieldComma(has_leading, fields)))
+    reader.enter_wait(Wait::FieldComma(has_leading, fields))
 }
 
 /// `,` behind the value of an entry.
 fn entry_comma<M: Makes>(
-    reader: &Reader<M>,
+    reader: &mut Reader<M>,
     has_leading: bool,
     entries: Option<M::Entries>,
     keys: Keys,
     value: M::Tree,
-) -> Result<Top<M>, Stop>
-    ensures { Follows M.views (closed (M.makes reader.now.at) (kinds.Mark marks.Comma) (machine.entry_value has_leading (option_map M.views.entries entries) (keys_of keys)) (M.views.tree value) (stack_of M.views reader.now.frames)) reader.now result }
+) -> Result<(), Stop>
+    requires { reader.old.top ≡ tops.Need }
+    ensures { Follows M.views (closed (M.makes reader.old.at) (kinds.Mark marks.Comma) (machine.entry_value has_leading (option_map M.views.entries entries) (keys_of keys)) (M.views.tree value) (stack_of M.views reader.old.frames)) reader.new result }
 {
     let entries = and_entry(reader, entries, keys, value)?;
-    Ok(Top::Wait(Wait::EntryComma(has_leading, entries)))
+    reader.enter_wait(Wait::EntryComma(has_leading, entries))
 }

@@ -1,24 +1,23 @@
 //! Keywords, and the ends of interpolations, that end the place of a frame.
+ghost use Rattle.std.specs.Prelude.{◌≡◌};
 ghost use Rattle.dh_grammar.specs.Machine.{closed};
 ghost use Rattle.dh_reader.specs.Follows.{Follows};
 ghost use Rattle.dh_reader.specs.Frames.{shut_of};
 ghost use Rattle.dh_reader.specs.Stacks.{stack_of};
+ghost use Rattle.dh_reader.specs.declared.tops.Top.TheVariants as tops;
 ghost use Rattle.dh_syntax.specs.declared.tokens.Keyword.TheVariants as keywords;
 ghost use Rattle.dh_syntax.specs.declared.tokens.TokenKind.TheVariants as kinds;
 
 use crate::frames::{Open, Shut};
 use crate::reader::Reader;
 use crate::stops::{Stop, refused};
-use crate::tops::{Front, Top, Wait};
+use crate::tops::{Front, Wait};
 use dh_making::Makes;
 
 impl<M: Makes> Shut<M> {
     /// `then` behind the operand in the place of the frame.
-    pub(crate) fn closed_by_then(
-        self,
-        reader: &mut Reader<M>,
-        operand: M::Tree,
-    ) -> Result<Top<M>, Stop>
+    pub(crate) fn closed_by_then(self, reader: &mut Reader<M>, operand: M::Tree) -> Result<(), Stop>
+        requires { reader.old.top ≡ tops.Need }
         ensures { Follows M.views (closed (M.makes reader.old.at) (kinds.Keyword keywords.Then) (shut_of M.views self) (M.views.tree operand) (stack_of M.views reader.old.frames)) reader.new result }
     {
         match self {
@@ -28,11 +27,8 @@ impl<M: Makes> Shut<M> {
     }
 
     /// `else` behind the operand in the place of the frame.
-    pub(crate) fn closed_by_else(
-        self,
-        reader: &mut Reader<M>,
-        operand: M::Tree,
-    ) -> Result<Top<M>, Stop>
+    pub(crate) fn closed_by_else(self, reader: &mut Reader<M>, operand: M::Tree) -> Result<(), Stop>
+        requires { reader.old.top ≡ tops.Need }
         ensures { Follows M.views (closed (M.makes reader.old.at) (kinds.Keyword keywords.Else) (shut_of M.views self) (M.views.tree operand) (stack_of M.views reader.old.frames)) reader.new result }
     {
         match self {
@@ -42,24 +38,22 @@ impl<M: Makes> Shut<M> {
     }
 
     /// `let` behind the operand in the place of the frame.
-    pub(crate) fn closed_by_let(self, reader: &Reader<M>, operand: M::Tree) -> Result<Top<M>, Stop>
-        ensures { Follows M.views (closed (M.makes reader.now.at) (kinds.Keyword keywords.Let) (shut_of M.views self) (M.views.tree operand) (stack_of M.views reader.now.frames)) reader.now result }
+    pub(crate) fn closed_by_let(self, reader: &mut Reader<M>, operand: M::Tree) -> Result<(), Stop>
+        requires { reader.old.top ≡ tops.Need }
+        ensures { Follows M.views (closed (M.makes reader.old.at) (kinds.Keyword keywords.Let) (shut_of M.views self) (M.views.tree operand) (stack_of M.views reader.old.frames)) reader.new result }
     {
         match self {
             Shut::LetValue(lets, word, note) => {
                 let lets = M::add_let(reader.alloc, reader.at, lets, word, note, operand)?;
-                Ok(Top::Wait(Wait::Letting(Some(lets))))
+                reader.enter_wait(Wait::Letting(Some(lets)))
             }
             other => Err(refused((other, operand))),
         }
     }
 
     /// `in` behind the operand in the place of the frame.
-    pub(crate) fn closed_by_in(
-        self,
-        reader: &mut Reader<M>,
-        operand: M::Tree,
-    ) -> Result<Top<M>, Stop>
+    pub(crate) fn closed_by_in(self, reader: &mut Reader<M>, operand: M::Tree) -> Result<(), Stop>
+        requires { reader.old.top ≡ tops.Need }
         ensures { Follows M.views (closed (M.makes reader.old.at) (kinds.Keyword keywords.In) (shut_of M.views self) (M.views.tree operand) (stack_of M.views reader.old.frames)) reader.new result }
     {
         match self {
@@ -74,15 +68,16 @@ impl<M: Makes> Shut<M> {
     /// The `}` of an interpolation behind the operand in the place of the frame.
     pub(crate) fn closed_by_interpolation(
         self,
-        reader: &Reader<M>,
+        reader: &mut Reader<M>,
         operand: M::Tree,
-    ) -> Result<Top<M>, Stop>
-        ensures { Follows M.views (closed (M.makes reader.now.at) (kinds.InterpolationClose) (shut_of M.views self) (M.views.tree operand) (stack_of M.views reader.now.frames)) reader.now result }
+    ) -> Result<(), Stop>
+        requires { reader.old.top ≡ tops.Need }
+        ensures { Follows M.views (closed (M.makes reader.old.at) (kinds.InterpolationClose) (shut_of M.views self) (M.views.tree operand) (stack_of M.views reader.old.frames)) reader.new result }
     {
         match self {
             Shut::Chunk(form, chunks) => {
                 let front = Front::Behind(chunks, operand);
-                Ok(Top::Wait(Wait::TextFront(form, front)))
+                reader.enter_wait(Wait::TextFront(form, front))
             }
             other => Err(refused((other, operand))),
         }

@@ -5,13 +5,13 @@ ghost use Rattle.dh_grammar.specs.Machine.{argue_on, first, shut};
 ghost use Rattle.dh_reader.specs.Follows.{Follows};
 ghost use Rattle.dh_reader.specs.Inside.Newest.{awaits_first};
 ghost use Rattle.dh_reader.specs.Stacks.{stack_of};
+ghost use Rattle.dh_reader.specs.declared.tops.Top.TheVariants as tops;
 
 use crate::frames::{Frame, Frames, Open, Shut};
 use crate::levels::APPLICATION;
 use crate::operands::beginning::begin;
 use crate::reader::Reader;
 use crate::stops::{Stop, refused};
-use crate::tops::Top;
 use dh_making::Makes;
 use dh_syntax::TokenKind;
 use std::mem::drop;
@@ -51,7 +51,8 @@ pub fn argue<M: Makes>(
     reader: &mut Reader<M>,
     kind: TokenKind,
     operand: M::Tree,
-) -> Result<Top<M>, Stop>
+) -> Result<(), Stop>
+    requires { reader.old.top ≡ tops.Need }
     ensures { Follows M.views (argue_on (M.makes reader.old.at) kind (stack_of M.views reader.old.frames) (M.views.tree operand)) reader.new result }
 {
     if reader.frames.take_first() {

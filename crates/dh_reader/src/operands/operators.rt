@@ -5,12 +5,13 @@ ghost use Rattle.dh_making.specs.Words.{keys_of};
 ghost use Rattle.dh_reader.specs.Follows.{Follows};
 ghost use Rattle.dh_reader.specs.Inside.Newest.{updates};
 ghost use Rattle.dh_reader.specs.Stacks.{stack_of};
+ghost use Rattle.dh_reader.specs.declared.tops.Top.TheVariants as tops;
 
 use crate::frames::{Frame, Frames, Open};
 use crate::levels::{ANY, IMPORT, SELECTION};
 use crate::reader::Reader;
 use crate::stops::{Stop, refused};
-use crate::tops::{Top, Wait};
+use crate::tops::Wait;
 use dh_making::{Keys, Makes};
 use dh_syntax::BinOp;
 use std::mem::drop;
@@ -20,7 +21,8 @@ pub fn operate<M: Makes>(
     reader: &mut Reader<M>,
     operator: BinOp,
     operand: M::Tree,
-) -> Result<Top<M>, Stop>
+) -> Result<(), Stop>
+    requires { reader.old.top ≡ tops.Need }
     ensures { Follows M.views (operate (M.makes reader.old.at) operator (have (stack_of M.views reader.old.frames) (ready (M.views.tree operand)))) reader.new result }
 {
     if operator.left_level() <= M::binds(reader.at, &operand)
@@ -33,17 +35,19 @@ pub fn operate<M: Makes>(
 }
 
 /// `.`
-pub fn select<M: Makes>(reader: &Reader<M>, operand: M::Tree) -> Result<Top<M>, Stop>
-    ensures { Follows M.views (select (M.makes reader.now.at) (have (stack_of M.views reader.now.frames) (ready (M.views.tree operand)))) reader.now result }
+pub fn select<M: Makes>(reader: &mut Reader<M>, operand: M::Tree) -> Result<(), Stop>
+    requires { reader.old.top ≡ tops.Need }
+    ensures { Follows M.views (select (M.makes reader.old.at) (have (stack_of M.views reader.old.frames) (ready (M.views.tree operand)))) reader.new result }
 {
     if M::binds(reader.at, &operand) < SELECTION {
         return Err(refused(operand));
     }
-    Ok(Top::Wait(Wait::Dotted(operand)))
+    reader.enter_wait(Wait::Dotted(operand))
 }
 
 /// `→`
-pub fn point<M: Makes>(reader: &mut Reader<M>, operand: M::Tree) -> Result<Top<M>, Stop>
+pub fn point<M: Makes>(reader: &mut Reader<M>, operand: M::Tree) -> Result<(), Stop>
+    requires { reader.old.top ≡ tops.Need }
     ensures { Follows M.views (point (M.makes reader.old.at) (have (stack_of M.views reader.old.frames) (ready (M.views.tree operand)))) reader.new result }
 {
     if reader.frames.least() > ANY {
@@ -53,7 +57,8 @@ pub fn point<M: Makes>(reader: &mut Reader<M>, operand: M::Tree) -> Result<Top<M
 }
 
 /// `:`
-pub fn annotate<M: Makes>(reader: &mut Reader<M>, operand: M::Tree) -> Result<Top<M>, Stop>
+pub fn annotate<M: Makes>(reader: &mut Reader<M>, operand: M::Tree) -> Result<(), Stop>
+    requires { reader.old.top ≡ tops.Need }
     ensures { Follows M.views (annotate (M.makes reader.old.at) (have (stack_of M.views reader.old.frames) (ready (M.views.tree operand)))) reader.new result }
 {
     if reader.frames.least() > ANY {
@@ -93,22 +98,24 @@ impl<M: Makes> Frames<M> {
 }
 
 /// `with`. Behind the value of an update it goes on with the whole update.
-pub fn renew<M: Makes>(reader: &mut Reader<M>, operand: M::Tree) -> Result<Top<M>, Stop>
+pub fn renew<M: Makes>(reader: &mut Reader<M>, operand: M::Tree) -> Result<(), Stop>
+    requires { reader.old.top ≡ tops.Need }
     ensures { Follows M.views (start_update (M.makes reader.old.at) (stack_of M.views reader.old.frames) (M.views.tree operand)) reader.new result }
 {
     match reader.frames.take_update() {
         Some((whole, keys)) => {
             let updated = M::updating(reader.alloc, reader.at, whole, keys, operand)?;
-            Ok(Top::Wait(Wait::WithStart(updated)))
+            reader.enter_wait(Wait::WithStart(updated))
         }
         None => start_update(reader, operand),
     }
 }
 
 /// `with` behind anything else.
-fn start_update<M: Makes>(reader: &Reader<M>, operand: M::Tree) -> Result<Top<M>, Stop>
-    requires { updates (stack_of M.views reader.now.frames) ≡ false }
-    ensures { Follows M.views (start_update (M.makes reader.now.at) (stack_of M.views reader.now.frames) (M.views.tree operand)) reader.now result }
+fn start_update<M: Makes>(reader: &mut Reader<M>, operand: M::Tree) -> Result<(), Stop>
+    requires bare { updates (stack_of M.views reader.old.frames) ≡ false }
+    requires need { reader.old.top ≡ tops.Need }
+    ensures { Follows M.views (start_update (M.makes reader.old.at) (stack_of M.views reader.old.frames) (M.views.tree operand)) reader.new result }
 {
     if M::binds(reader.at, &operand) < IMPORT {
         return Err(Stop::Refused);
@@ -116,5 +123,5 @@ fn start_update<M: Makes>(reader: &Reader<M>, operand: M::Tree) -> Result<Top<M>
     if reader.frames.least() > ANY {
         return Err(refused(operand));
     }
-    Ok(Top::Wait(Wait::WithStart(operand)))
+    reader.enter_wait(Wait::WithStart(operand))
 }

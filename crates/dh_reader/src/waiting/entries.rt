@@ -6,34 +6,37 @@ ghost use Rattle.dh_making.specs.Words.{key_of, keys_of};
 ghost use Rattle.dh_reader.specs.Follows.{Follows};
 ghost use Rattle.dh_reader.specs.Inside.Nexts.{next, unless_some};
 ghost use Rattle.dh_reader.specs.Stacks.{stack_of};
+ghost use Rattle.dh_reader.specs.declared.tops.Top.TheVariants as tops;
 ghost use Rattle.dh_reader.specs.declared.stops.Stop.TheVariants.{Memory};
 
 use crate::frames::Shut;
 use crate::reader::Reader;
 use crate::stops::{Stop, refused};
-use crate::tops::{Top, Wait};
+use crate::tops::Wait;
 use crate::waiting::tokens::{into_mark, is_found, mark_of};
 use dh_making::{EntryKey, Keys, Makes};
 use dh_syntax::{Mark, TokenKind};
 
 /// Behind `{`, the entries so far and `,`.
 pub(crate) fn entry_comma<M: Makes>(
-    reader: &Reader<M>,
+    reader: &mut Reader<M>,
     has_leading: bool,
     entries: M::Entries,
     kind: TokenKind,
-) -> Result<Top<M>, Stop>
-    ensures { Follows M.views (next (M.makes reader.now.at) (machine.entry_comma has_leading (M.views.entries entries)) kind (stack_of M.views reader.now.frames)) reader.now result }
+) -> Result<(), Stop>
+    requires { reader.old.top ≡ tops.Need }
+    ensures { Follows M.views (next (M.makes reader.old.at) (machine.entry_comma has_leading (M.views.entries entries)) kind (stack_of M.views reader.old.frames)) reader.new result }
 {
     let mark = mark_of(&kind);
     let key = EntryKey::of_token(kind);
     if is_found(mark, Mark::BraceClose) {
-        Ok(Top::ready(M::record_of(reader.alloc, reader.at, has_leading, entries, true)?))
+        let made = M::record_of(reader.alloc, reader.at, has_leading, entries, true)?;
+        reader.enter_ready(made)
     } else {
         match key {
             Some(key) => {
                 let keys = Keys::one(reader.alloc, key);
-                Ok(Top::Wait(Wait::EntryKeys(has_leading, Some(entries), keys)))
+                reader.enter_wait(Wait::EntryKeys(has_leading, Some(entries), keys))
             }
             None => Err(refused(entries)),
         }
@@ -47,21 +50,22 @@ pub(crate) fn entry_keys<M: Makes>(
     entries: Option<M::Entries>,
     keys: Keys,
     kind: TokenKind,
-) -> Result<Top<M>, Stop>
+) -> Result<(), Stop>
+    requires { reader.old.top ≡ tops.Need }
     ensures { Follows M.views (next (M.makes reader.old.at) (machine.entry_keys has_leading (option_map M.views.entries entries) (keys_of keys)) kind (stack_of M.views reader.old.frames)) reader.new result }
 {
     let mark = into_mark(kind);
     if is_found(mark, Mark::Colon) {
         first_field(reader, has_leading, entries, keys)
     } else if is_found(mark, Mark::Dot) {
-        Ok(Top::Wait(Wait::EntryDot(has_leading, entries, keys)))
+        reader.enter_wait(Wait::EntryDot(has_leading, entries, keys))
     } else if is_found(mark, Mark::Equals) {
         reader.enter_shut(Shut::EntryValue(has_leading, entries, keys))
     } else if is_found(mark, Mark::Comma) {
         match keys.into_only() {
             Some(key) => {
                 let entries = and_lone(reader, entries, key)?;
-                Ok(Top::Wait(Wait::EntryComma(has_leading, entries)))
+                reader.enter_wait(Wait::EntryComma(has_leading, entries))
             }
             None => Err(refused(entries)),
         }
@@ -69,7 +73,8 @@ pub(crate) fn entry_keys<M: Makes>(
         match keys.into_only() {
             Some(key) => {
                 let entries = and_lone(reader, entries, key)?;
-                Ok(Top::ready(M::record_of(reader.alloc, reader.at, has_leading, entries, false)?))
+                let made = M::record_of(reader.alloc, reader.at, has_leading, entries, false)?;
+                reader.enter_ready(made)
             }
             None => Err(refused(entries)),
         }
@@ -80,19 +85,20 @@ pub(crate) fn entry_keys<M: Makes>(
 
 /// Behind `{`, the entries so far and `keys.`.
 pub(crate) fn entry_dot<M: Makes>(
-    reader: &Reader<M>,
+    reader: &mut Reader<M>,
     has_leading: bool,
     entries: Option<M::Entries>,
     keys: Keys,
     kind: TokenKind,
-) -> Result<Top<M>, Stop>
-    ensures { Follows M.views (next (M.makes reader.now.at) (machine.entry_dot has_leading (option_map M.views.entries entries) (keys_of keys)) kind (stack_of M.views reader.now.frames)) reader.now result }
+) -> Result<(), Stop>
+    requires { reader.old.top ≡ tops.Need }
+    ensures { Follows M.views (next (M.makes reader.old.at) (machine.entry_dot has_leading (option_map M.views.entries entries) (keys_of keys)) kind (stack_of M.views reader.old.frames)) reader.new result }
 {
     let mut keys = keys;
     match EntryKey::of_token(kind) {
         Some(key) => {
             keys.push(key)?;
-            Ok(Top::Wait(Wait::EntryKeys(has_leading, entries, keys)))
+            reader.enter_wait(Wait::EntryKeys(has_leading, entries, keys))
         }
         None => Err(refused((entries, keys))),
     }
@@ -104,7 +110,8 @@ fn first_field<M: Makes>(
     has_leading: bool,
     entries: Option<M::Entries>,
     keys: Keys,
-) -> Result<Top<M>, Stop>
+) -> Result<(), Stop>
+    requires { reader.old.top ≡ tops.Need }
     ensures { Follows M.views (unless_some (option_map M.views.entries entries) (with_key (λ k. need (shut (field_type has_leading None k) ∷ stack_of M.views reader.old.frames)) (one_of (keys_of keys)))) reader.new result }
 {
     match entries {

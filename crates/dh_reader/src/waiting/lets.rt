@@ -1,29 +1,31 @@
 //! Waits of `let`.
-ghost use Rattle.std.specs.Prelude.{option_map};
+ghost use Rattle.std.specs.Prelude.{◌≡◌, option_map};
 ghost use Rattle.dh_grammar.specs.Machine as machine;
 ghost use Rattle.dh_making.specs.Words.{word_of};
 ghost use Rattle.dh_reader.specs.Follows.{Follows};
 ghost use Rattle.dh_reader.specs.Inside.Nexts.{next};
 ghost use Rattle.dh_reader.specs.Stacks.{stack_of};
+ghost use Rattle.dh_reader.specs.declared.tops.Top.TheVariants as tops;
 
 use crate::frames::Shut;
 use crate::reader::Reader;
 use crate::stops::{Stop, refused};
-use crate::tops::{Top, Wait};
+use crate::tops::Wait;
 use crate::waiting::tokens::{into_mark, is_found};
 use dh_making::{Makes, Word};
 use dh_syntax::{Mark, TokenKind};
 
 /// Behind the bindings so far and `let`.
 pub(crate) fn letting<M: Makes>(
-    reader: &Reader<M>,
+    reader: &mut Reader<M>,
     lets: Option<M::Lets>,
     kind: TokenKind,
-) -> Result<Top<M>, Stop>
-    ensures { Follows M.views (next (M.makes reader.now.at) (machine.letting (option_map M.views.lets lets)) kind (stack_of M.views reader.now.frames)) reader.now result }
+) -> Result<(), Stop>
+    requires { reader.old.top ≡ tops.Need }
+    ensures { Follows M.views (next (M.makes reader.old.at) (machine.letting (option_map M.views.lets lets)) kind (stack_of M.views reader.old.frames)) reader.new result }
 {
     match Word::of_token(kind) {
-        Some(word) => Ok(Top::Wait(Wait::Lettered(lets, word))),
+        Some(word) => reader.enter_wait(Wait::Lettered(lets, word)),
         None => Err(refused(lets)),
     }
 }
@@ -34,7 +36,8 @@ pub(crate) fn lettered<M: Makes>(
     lets: Option<M::Lets>,
     word: Word,
     kind: TokenKind,
-) -> Result<Top<M>, Stop>
+) -> Result<(), Stop>
+    requires { reader.old.top ≡ tops.Need }
     ensures { Follows M.views (next (M.makes reader.old.at) (machine.lettered (option_map M.views.lets lets) (word_of word)) kind (stack_of M.views reader.old.frames)) reader.new result }
 {
     let mark = into_mark(kind);

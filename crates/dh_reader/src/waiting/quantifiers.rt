@@ -1,29 +1,32 @@
 //! Waits of `λ` and `∀`, and of `assert`.
+ghost use Rattle.std.specs.Prelude.{◌≡◌};
 ghost use Rattle.dh_grammar.specs.Machine as machine;
 ghost use Rattle.dh_making.specs.Words.{word_of};
 ghost use Rattle.dh_reader.specs.Follows.{Follows};
 ghost use Rattle.dh_reader.specs.Inside.Nexts.{next};
 ghost use Rattle.dh_reader.specs.Stacks.{stack_of};
+ghost use Rattle.dh_reader.specs.declared.tops.Top.TheVariants as tops;
 
 use crate::frames::{Open, Shut};
 use crate::reader::Reader;
 use crate::stops::{Stop, refused};
-use crate::tops::{Top, Wait};
+use crate::tops::Wait;
 use crate::waiting::tokens::{into_mark, is_found};
 use dh_making::{Makes, Word};
 use dh_syntax::{Mark, TokenKind};
 
 /// Behind `λ`, or `∀`.
 pub(crate) fn quantifier<M: Makes>(
-    reader: &Reader<M>,
+    reader: &mut Reader<M>,
     is_lambda: bool,
     kind: TokenKind,
-) -> Result<Top<M>, Stop>
-    ensures { Follows M.views (next (M.makes reader.now.at) (machine.quantifier is_lambda) kind (stack_of M.views reader.now.frames)) reader.now result }
+) -> Result<(), Stop>
+    requires { reader.old.top ≡ tops.Need }
+    ensures { Follows M.views (next (M.makes reader.old.at) (machine.quantifier is_lambda) kind (stack_of M.views reader.old.frames)) reader.new result }
 {
     let mark = into_mark(kind);
     if is_found(mark, Mark::ParenOpen) {
-        Ok(Top::Wait(Wait::Quantified(is_lambda)))
+        reader.enter_wait(Wait::Quantified(is_lambda))
     } else {
         Err(Stop::Refused)
     }
@@ -31,14 +34,15 @@ pub(crate) fn quantifier<M: Makes>(
 
 /// Behind `λ(`.
 pub(crate) fn quantified<M: Makes>(
-    reader: &Reader<M>,
+    reader: &mut Reader<M>,
     is_lambda: bool,
     kind: TokenKind,
-) -> Result<Top<M>, Stop>
-    ensures { Follows M.views (next (M.makes reader.now.at) (machine.quantified is_lambda) kind (stack_of M.views reader.now.frames)) reader.now result }
+) -> Result<(), Stop>
+    requires { reader.old.top ≡ tops.Need }
+    ensures { Follows M.views (next (M.makes reader.old.at) (machine.quantified is_lambda) kind (stack_of M.views reader.old.frames)) reader.new result }
 {
     match Word::of_token(kind) {
-        Some(word) => Ok(Top::Wait(Wait::Quantity(is_lambda, word))),
+        Some(word) => reader.enter_wait(Wait::Quantity(is_lambda, word)),
         None => Err(Stop::Refused),
     }
 }
@@ -49,7 +53,8 @@ pub(crate) fn quantity<M: Makes>(
     is_lambda: bool,
     word: Word,
     kind: TokenKind,
-) -> Result<Top<M>, Stop>
+) -> Result<(), Stop>
+    requires { reader.old.top ≡ tops.Need }
     ensures { Follows M.views (next (M.makes reader.old.at) (machine.quantity is_lambda (word_of word)) kind (stack_of M.views reader.old.frames)) reader.new result }
 {
     let mark = into_mark(kind);
@@ -67,7 +72,8 @@ pub(crate) fn domained<M: Makes>(
     word: Word,
     domain: M::Tree,
     kind: TokenKind,
-) -> Result<Top<M>, Stop>
+) -> Result<(), Stop>
+    requires { reader.old.top ≡ tops.Need }
     ensures { Follows M.views (next (M.makes reader.old.at) (machine.domained is_lambda (word_of word) (M.views.tree domain)) kind (stack_of M.views reader.old.frames)) reader.new result }
 {
     let mark = into_mark(kind);
@@ -79,7 +85,8 @@ pub(crate) fn domained<M: Makes>(
 }
 
 /// Behind `assert`.
-pub(crate) fn asserting<M: Makes>(reader: &mut Reader<M>, kind: TokenKind) -> Result<Top<M>, Stop>
+pub(crate) fn asserting<M: Makes>(reader: &mut Reader<M>, kind: TokenKind) -> Result<(), Stop>
+    requires { reader.old.top ≡ tops.Need }
     ensures { Follows M.views (next (M.makes reader.old.at) machine.asserting kind (stack_of M.views reader.old.frames)) reader.new result }
 {
     let mark = into_mark(kind);

@@ -4,12 +4,13 @@ ghost use Rattle.dh_grammar.specs.Machine as machine;
 ghost use Rattle.dh_reader.specs.Follows.{Follows};
 ghost use Rattle.dh_reader.specs.Inside.Nexts.{next};
 ghost use Rattle.dh_reader.specs.Stacks.{stack_of};
+ghost use Rattle.dh_reader.specs.declared.tops.Top.TheVariants as tops;
 ghost use Rattle.dh_reader.specs.States.{front_of};
 
 use crate::frames::Shut;
 use crate::reader::Reader;
 use crate::stops::{Stop, refused};
-use crate::tops::{Front, Top, Wait};
+use crate::tops::{Front, Wait};
 use dh_making::Makes;
 use dh_syntax::{Piece, TextForm, TokenKind};
 use std::alloc::AllocError;
@@ -40,13 +41,14 @@ pub(crate) fn text_front<M: Makes>(
     form: TextForm,
     front: Front<M>,
     kind: TokenKind,
-) -> Result<Top<M>, Stop>
+) -> Result<(), Stop>
+    requires { reader.old.top ≡ tops.Need }
     ensures { Follows M.views (next (M.makes reader.old.at) (machine.text_front form (front_of M.views front)) kind (stack_of M.views reader.old.frames)) reader.new result }
 {
     match kind {
         TokenKind::TextPiece(piece) => {
             let chunks = sealed(reader, front, Some(piece))?;
-            Ok(Top::Wait(Wait::TextPiece(form, chunks)))
+            reader.enter_wait(Wait::TextPiece(form, chunks))
         }
         TokenKind::InterpolationOpen => {
             let chunks = sealed(reader, front, None)?;
@@ -54,7 +56,8 @@ pub(crate) fn text_front<M: Makes>(
         }
         TokenKind::TextClose => {
             let chunks = sealed(reader, front, None)?;
-            Ok(Top::ready(M::text(reader.alloc, reader.at, form, chunks)?))
+            let made = M::text(reader.alloc, reader.at, form, chunks)?;
+            reader.enter_ready(made)
         }
         other => Err(refused((other, front))),
     }
@@ -66,12 +69,16 @@ pub(crate) fn text_piece<M: Makes>(
     form: TextForm,
     chunks: M::Chunks,
     kind: TokenKind,
-) -> Result<Top<M>, Stop>
+) -> Result<(), Stop>
+    requires { reader.old.top ≡ tops.Need }
     ensures { Follows M.views (next (M.makes reader.old.at) (machine.text_piece form (M.views.chunks chunks)) kind (stack_of M.views reader.old.frames)) reader.new result }
 {
     match kind {
         TokenKind::InterpolationOpen => reader.enter_shut(Shut::Chunk(form, chunks)),
-        TokenKind::TextClose => Ok(Top::ready(M::text(reader.alloc, reader.at, form, chunks)?)),
+        TokenKind::TextClose => {
+            let made = M::text(reader.alloc, reader.at, form, chunks)?;
+            reader.enter_ready(made)
+        }
         other => Err(refused((other, chunks))),
     }
 }

@@ -1,30 +1,33 @@
 //! Waits of `with`.
+ghost use Rattle.std.specs.Prelude.{◌≡◌};
 ghost use Rattle.dh_grammar.specs.Machine as machine;
 ghost use Rattle.dh_making.specs.Words.{keys_of};
 ghost use Rattle.dh_reader.specs.Follows.{Follows};
 ghost use Rattle.dh_reader.specs.Inside.Nexts.{next};
 ghost use Rattle.dh_reader.specs.Stacks.{stack_of};
+ghost use Rattle.dh_reader.specs.declared.tops.Top.TheVariants as tops;
 
 use crate::frames::Open;
 use crate::reader::Reader;
 use crate::stops::{Stop, refused};
-use crate::tops::{Top, Wait};
+use crate::tops::Wait;
 use crate::waiting::tokens::{into_mark, is_found};
 use dh_making::{EntryKey, Keys, Makes};
 use dh_syntax::{Mark, TokenKind};
 
 /// Behind `whole with`.
 pub(crate) fn with_start<M: Makes>(
-    reader: &Reader<M>,
+    reader: &mut Reader<M>,
     whole: M::Tree,
     kind: TokenKind,
-) -> Result<Top<M>, Stop>
-    ensures { Follows M.views (next (M.makes reader.now.at) (machine.with_start (M.views.tree whole)) kind (stack_of M.views reader.now.frames)) reader.now result }
+) -> Result<(), Stop>
+    requires { reader.old.top ≡ tops.Need }
+    ensures { Follows M.views (next (M.makes reader.old.at) (machine.with_start (M.views.tree whole)) kind (stack_of M.views reader.old.frames)) reader.new result }
 {
     match EntryKey::of_token(kind) {
         Some(key) => {
             let keys = Keys::one(reader.alloc, key);
-            Ok(Top::Wait(Wait::WithKeys(whole, keys)))
+            reader.enter_wait(Wait::WithKeys(whole, keys))
         }
         None => Err(refused(whole)),
     }
@@ -36,12 +39,13 @@ pub(crate) fn with_keys<M: Makes>(
     whole: M::Tree,
     keys: Keys,
     kind: TokenKind,
-) -> Result<Top<M>, Stop>
+) -> Result<(), Stop>
+    requires { reader.old.top ≡ tops.Need }
     ensures { Follows M.views (next (M.makes reader.old.at) (machine.with_keys (M.views.tree whole) (keys_of keys)) kind (stack_of M.views reader.old.frames)) reader.new result }
 {
     let mark = into_mark(kind);
     if is_found(mark, Mark::Dot) {
-        Ok(Top::Wait(Wait::WithDot(whole, keys)))
+        reader.enter_wait(Wait::WithDot(whole, keys))
     } else if is_found(mark, Mark::Equals) {
         reader.enter_open(Open::Update(whole, keys))
     } else {
@@ -51,18 +55,19 @@ pub(crate) fn with_keys<M: Makes>(
 
 /// Behind `whole with keys.`.
 pub(crate) fn with_dot<M: Makes>(
-    reader: &Reader<M>,
+    reader: &mut Reader<M>,
     whole: M::Tree,
     keys: Keys,
     kind: TokenKind,
-) -> Result<Top<M>, Stop>
-    ensures { Follows M.views (next (M.makes reader.now.at) (machine.with_dot (M.views.tree whole) (keys_of keys)) kind (stack_of M.views reader.now.frames)) reader.now result }
+) -> Result<(), Stop>
+    requires { reader.old.top ≡ tops.Need }
+    ensures { Follows M.views (next (M.makes reader.old.at) (machine.with_dot (M.views.tree whole) (keys_of keys)) kind (stack_of M.views reader.old.frames)) reader.new result }
 {
     let mut keys = keys;
     match EntryKey::of_token(kind) {
         Some(key) => {
             keys.push(key)?;
-            Ok(Top::Wait(Wait::WithKeys(whole, keys)))
+            reader.enter_wait(Wait::WithKeys(whole, keys))
         }
         None => Err(refused((whole, keys))),
     }

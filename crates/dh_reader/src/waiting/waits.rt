@@ -1,13 +1,16 @@
 //! A token within a production.
-ghost use Rattle.dh_grammar.specs.Machine.{waited};
+ghost use Rattle.std.specs.Prelude.{◌≡◌, true};
+ghost use Rattle.dh_grammar.specs.Machine.{after};
 ghost use Rattle.dh_reader.specs.Follows.{Follows};
 ghost use Rattle.dh_reader.specs.Inside.Nexts.{next};
+ghost use Rattle.dh_reader.specs.Inside.Tops.{is_waiting};
 ghost use Rattle.dh_reader.specs.Stacks.{stack_of};
-ghost use Rattle.dh_reader.specs.States.{wait_of};
+ghost use Rattle.dh_reader.specs.declared.tops.Top.TheVariants as tops;
+ghost use Rattle.dh_reader.specs.States.{state_of, wait_of};
 
 use crate::reader::Reader;
 use crate::stops::Stop;
-use crate::tops::{Top, Wait};
+use crate::tops::Wait;
 use crate::waiting::entries::{entry_comma, entry_dot, entry_keys};
 use crate::waiting::imports::{indexed, moded};
 use crate::waiting::lets::{lettered, letting};
@@ -21,18 +24,41 @@ use dh_making::Makes;
 use dh_syntax::TokenKind;
 
 /// A token within a production.
-pub fn waited<M: Makes>(
-    reader: &mut Reader<M>,
-    wait: Wait<M>,
-    kind: TokenKind,
-) -> Result<Top<M>, Stop>
-    ensures { Follows M.views (waited (M.makes reader.old.at) (wait_of M.views wait) kind (stack_of M.views reader.old.frames)) reader.new result }
+pub fn waited<M: Makes>(reader: &mut Reader<M>, kind: TokenKind) -> Result<(), Stop>
+    requires { is_waiting reader.old.top ≡ true }
+    ensures { Follows M.views (after (M.makes reader.old.at) kind (state_of M.views reader.old.frames reader.old.top)) reader.new result }
 {
+    let wait = reader.top.take_wait();
     awaited(reader, wait, kind)
 }
 
+// What an arm of a `match` needs is made ready at each call of its function. So the waits that come most often stand apart.
+
 /// The next place of the reader after a token at this wait: each wait has a call of its own.
-fn awaited<M: Makes>(reader: &mut Reader<M>, wait: Wait<M>, kind: TokenKind) -> Result<Top<M>, Stop>
+fn awaited<M: Makes>(reader: &mut Reader<M>, wait: Wait<M>, kind: TokenKind) -> Result<(), Stop>
+    requires { reader.old.top ≡ tops.Need }
+    ensures { Follows M.views (next (M.makes reader.old.at) (wait_of M.views wait) kind (stack_of M.views reader.old.frames)) reader.new result }
+{
+    match wait {
+        Wait::EntryKeys(has_leading, entries, keys) => {
+            entry_keys(reader, has_leading, entries, keys, kind)
+        }
+        Wait::EntryComma(has_leading, entries) => {
+            entry_comma(reader, has_leading, entries, kind)
+        }
+        Wait::Lettered(lets, word) => lettered(reader, lets, word, kind),
+        Wait::Dotted(whole) => dotted(reader, whole, kind),
+        other => awaited_else(reader, other, kind),
+    }
+}
+
+/// Any wait, of which some are told apart above.
+fn awaited_else<M: Makes>(
+    reader: &mut Reader<M>,
+    wait: Wait<M>,
+    kind: TokenKind,
+) -> Result<(), Stop>
+    requires { reader.old.top ≡ tops.Need }
     ensures { Follows M.views (next (M.makes reader.old.at) (wait_of M.views wait) kind (stack_of M.views reader.old.frames)) reader.new result }
 {
     match wait {

@@ -11,8 +11,8 @@ use Rattle.dh_parse.proofs.reading.read.Goals as goal
 pub loop-token-preserved : goal.loop-token-preserved
 loop-token-preserved g c =
     let m = g.M.Makes.makes in
-    let s = state_of g.M.Makes.views c.loop-token.reader.frames c.loop-token.place in
-    let on = state_of g.M.Makes.views c.step.new.reader.frames c.in-Ok.next in
+    let s = state_of g.M.Makes.views c.loop-token.reader.frames c.loop-token.reader.top in
+    let on = state_of g.M.Makes.views c.step.new.reader.frames c.step.new.reader.top in
     let rest = into_iter_items c.next.new.self in
     let left : into_iter_items c.loop-token.token-iterator ≡ c.in-Some.token ∷ rest = c.in-Some.ensures.steps.0 in
     let fewer = ap length left in
@@ -26,13 +26,13 @@ loop-token-preserved g c =
 
 pub unreachable-requires : goal.unreachable-requires
 unreachable-requires g c =
-    let s = state_of g.M.Makes.views c.loop-token.reader.frames c.loop-token.place in
+    let s = state_of g.M.Makes.views c.loop-token.reader.frames c.loop-token.reader.top in
     let ended = ends_so s _ (sym c.loop-token.invariant.counted ∙ c.in-None.ensures.steps.0) c.loop-token.invariant.ends in
-    awaits g.M.Makes.views c.loop-token.reader.frames c.loop-token.place c.in-Need.is ended
+    awaits g.M.Makes.views c.loop-token.reader.frames c.loop-token.reader.top c.in-Need.is ended
 
 pub returns-in-Err-clause-fault : goal.returns-in-Err-clause-fault
 returns-in-Err-clause-fault g c =
     let m = g.M.Makes.makes in
-    let s = state_of g.M.Makes.views c.loop-token.reader.frames c.loop-token.place in
+    let s = state_of g.M.Makes.views c.loop-token.reader.frames c.loop-token.reader.top in
     let e : reading_at m c.loop-token.at s (c.in-Some.token ∷ into_iter_items c.next.new.self) ≡ reading_at m 0 (need []) c.args.tokens = search rules in
     subst (λ r. IsFault r c.in-Err.fault) e (c.in-Err.ensures.fault (into_iter_items c.next.new.self))

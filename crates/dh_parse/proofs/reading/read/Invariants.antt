@@ -9,7 +9,7 @@ use Rattle.dh_parse.proofs.reading.read.Given as goal
 
 abbrev pub invariant-loop-token : goal.invariant-loop-token
 invariant-loop-token g l =
-    let s = state_of g.M.Makes.views l.reader.frames l.place in
+    let s = state_of g.M.Makes.views l.reader.frames l.reader.top in
     let left = into_iter_items l.token-iterator in
     record {
       reads : reading_at g.M.Makes.makes l.at s left ≡ reading_at g.M.Makes.makes 0 (need []) (into_iter_items l.initial.token-iterator);

@@ -8,16 +8,16 @@ use Rattle.dh_parse.proofs.reading.step.Goals as goal
 
 pub returns-then-is_deep-clause-fault : goal.returns-then-is_deep-clause-fault
 returns-then-is_deep-clause-fault g c =
-    let s = state_of g.M.Makes.views c.args.reader.now.frames c.args.place in
+    let s = state_of g.M.Makes.views c.args.reader.now.frames c.args.reader.now.top in
     let white : (not (gap_at s c.args.token.kind) || c.args.token.gap) ≡ true = cc in
     let many : opens_many s c.args.token.kind ≡ true = cc in
-    let on = state_of g.M.Makes.views c.after.new.self.frames c.in-Ok.next in
-    opens_too_many g.M.Makes.makes c.args.reader.now.at s on c.args.token c.requires white c.in-Ok.ensures (runs g.M.Makes.views c.after.new.self.frames c.in-Ok.next) many
+    let on = state_of g.M.Makes.views c.after.new.self.frames c.after.new.self.top in
+    opens_too_many g.M.Makes.makes c.args.reader.now.at s on c.args.token c.requires white c.in-Ok.ensures (runs g.M.Makes.views c.after.new.self.frames c.after.new.self.top) many
 
 pub returns-else-is_deep-clause-read : goal.returns-else-is_deep-clause-read
 returns-else-is_deep-clause-read g c =
-    let s = state_of g.M.Makes.views c.args.reader.now.frames c.args.place in
+    let s = state_of g.M.Makes.views c.args.reader.now.frames c.args.reader.now.top in
     let white : (not (gap_at s c.args.token.kind) || c.args.token.gap) ≡ true = cc in
     let few : opens_many s c.args.token.kind ≡ false = cc in
-    let on = state_of g.M.Makes.views c.after.new.self.frames c.in-Ok.next in
-    goes_on g.M.Makes.makes c.args.reader.now.at s on c.args.token c.requires white c.in-Ok.ensures (runs g.M.Makes.views c.after.new.self.frames c.in-Ok.next) few
+    let on = state_of g.M.Makes.views c.after.new.self.frames c.after.new.self.top in
+    goes_on g.M.Makes.makes c.args.reader.now.at s on c.args.token c.requires white c.in-Ok.ensures (runs g.M.Makes.views c.after.new.self.frames c.after.new.self.top) few
