@@ -4,6 +4,7 @@ use Rattle.dh_explain.specs.Explanations.{Explanation}
 use Rattle.dh_syntax.specs.Typing.TypeRules as rule
 use Rattle.dh_syntax.specs.Typing.TypeRules.{Rule}
 
+-- what each rule wants
 unfoldable pub explained : Rule → Explanation
 explained rule.UnboundVariable = record {
   name = codes "unbound variable";
@@ -171,7 +172,7 @@ explained rule.FieldTypeNoUniverse = record {
   name = codes "field of a record type";
   wants =
       codes "In a record type `{ x : A }` each `A` must be a type, a kind or a sort: its own type must be `Type`, `Kind` or `Sort`."
-      ∷ codes "A value stands behind `=`, in a record."
+      ∷ codes "A value stands after `=`, in a record."
       ∷ [];
   fails = Some (codes "{ a : 1 }");
   types = codes "{ a : Bool }";

@@ -174,7 +174,7 @@ fn of_fields(rule: u32) -> &'static str
         19 => {
             "type rule 19: field of a record type\n\
              In a record type `{ x : A }` each `A` must be a type, a kind or a sort: its own type must be `Type`, `Kind` or `Sort`.\n\
-             A value stands behind `=`, in a record.\n\
+             A value stands after `=`, in a record.\n\
              fails: { a : 1 }\n\
              types: { a : Bool }\n"
         }
